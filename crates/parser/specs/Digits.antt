@@ -1,0 +1,89 @@
+-- Digits: fields of so many, runs of any number, and the fraction of a second.
+use Prim.Native.Nat.{ℕ, zero, suc, _+_, _*_, _-_}
+use mathlib.Core.List.{List, [], _∷_, _++_}
+use mathlib.Core.Bool.{Bool, true, false, not}
+use lib.ListN.{length, getD, take, drop, replicate}
+use lib.Dec.{ltb, leb}
+use Rattle.parser.specs.Reading.{Found, no, got, stop, Reader, and, pick, within}
+
+-- "A digit is a byte 48 to 57."
+abbrev pub isDigit : ℕ → Bool
+isDigit b = within 48 57 b
+
+abbrev pub digit : List ℕ → ℕ → Bool
+digit s at = and (ltb at (length s)) (isDigit (getD s at 0))
+
+-- "An N-digit field takes exactly N digits and is then range-checked": n more digits after the number v, the whole from lo to hi
+unfoldable pub digitsFrom : ℕ → ℕ → ℕ → ℕ → List ℕ → ℕ → Found ℕ
+digitsFrom lo hi zero v s at = pick (within lo hi v) (got v at) no
+digitsFrom lo hi (suc n) v s at = pick (digit s at) (digitsFrom lo hi n (v * 10 + (getD s at 0 - 48)) s (at + 1)) no
+
+-- the least and the greatest number that n more digits make of v
+unfoldable pub lowest : ℕ → ℕ → ℕ
+lowest zero v = v
+lowest (suc n) v = lowest n (v * 10)
+
+unfoldable pub highest : ℕ → ℕ → ℕ
+highest zero v = v
+highest (suc n) v = highest n (v * 10 + 9)
+
+-- some n more digits after v make a number from lo to hi
+unfoldable pub reach : ℕ → ℕ → ℕ → ℕ → Bool
+reach lo hi n v = and (leb lo (highest n v)) (leb (lowest n v) hi)
+
+unfoldable pub digitsMore : ℕ → ℕ → ℕ → ℕ → List ℕ → ℕ → Bool
+digitsMore lo hi zero v s at = false
+digitsMore lo hi (suc n) v s at =
+    pick (ltb at (length s)) (pick (digit s at) (digitsMore lo hi n (v * 10 + (getD s at 0 - 48)) s (at + 1)) false) (reach lo hi (suc n) v)
+
+-- a field of n digits, from lo to hi
+unfoldable pub field : ℕ → ℕ → ℕ → Reader ℕ
+field n lo hi = record { reads = digitsFrom lo hi n 0; more = digitsMore lo hi n 0 }
+
+-- the digits at the front of a list, as many as there are
+unfoldable pub digits : List ℕ → List ℕ
+digits [] = []
+digits (b ∷ s) = pick (isDigit b) (b ∷ digits s) []
+
+-- the number that digits write, after the number v
+unfoldable pub numberFrom : ℕ → List ℕ → ℕ
+numberFrom v [] = v
+numberFrom v (b ∷ s) = numberFrom (v * 10 + (b - 48)) s
+
+abbrev pub number : List ℕ → ℕ
+number = numberFrom 0
+
+abbrev pub runAt : List ℕ → ℕ → List ℕ
+runAt s at = digits (drop at s)
+
+-- what stands for a run: nothing where it has no digit
+abbrev pub ofRun : {A : Type 0} → List ℕ → A → A → A
+ofRun [] none some = none
+ofRun (b ∷ d) none some = some
+
+-- a run reaches the end of the input
+abbrev pub atTheEnd : List ℕ → ℕ → Bool
+atTheEnd s at = not (ltb (at + length (runAt s at)) (length s))
+
+-- "a digit run above 4,294,967,295" is refusal 2
+abbrev pub limit : ℕ
+limit = 4294967295
+
+-- a digit run: one digit or more, read as a number
+unfoldable pub run : Reader ℕ
+run = record {
+  reads = λ s at.
+      ofRun (runAt s at) no (pick (leb (number (runAt s at)) limit) (got (number (runAt s at)) (at + length (runAt s at))) (stop 2));
+  more = λ s at. and (atTheEnd s at) (leb (number (runAt s at)) limit);
+}
+
+-- "the first nine digits, padded with zeros on the right; further digits are read and dropped"
+abbrev pub nanoseconds : List ℕ → ℕ
+nanoseconds d = number (take 9 (d ++ replicate 9 48))
+
+-- "one or more digits", as a fraction in nanoseconds
+unfoldable pub fraction : Reader ℕ
+fraction = record {
+  reads = λ s at. ofRun (runAt s at) no (got (nanoseconds (runAt s at)) (at + length (runAt s at)));
+  more = atTheEnd;
+}

@@ -1,0 +1,65 @@
+-- The code's answers as what `Reading` speaks of.
+use Prim.Native.Nat.{ℕ}
+use mathlib.Core.Bool.{Bool, true, false}
+use Rattle.parser.specs.Reading.{Found, no, got, stop}
+use Rattle.parser.specs.declared.Mark.{Mark}
+use Rattle.parser.specs.declared.Mark.the-variants as mark
+use Rattle.parser.specs.declared.Number.{Number}
+use Rattle.parser.specs.declared.Number.the-variants as number
+use Rattle.parser.specs.declared.Signed.{Signed}
+use Rattle.parser.specs.declared.Signed.the-variants as sign
+use Rattle.parser.specs.declared.Run.{Run}
+use Rattle.parser.specs.declared.Run.the-variants as run
+
+abbrev pub markFound : Mark → Found Unit
+markFound (mark.Got n) = got tt n
+markFound mark.Wrong = no
+markFound mark.Cut = no
+
+abbrev pub markMore : Mark → Bool
+markMore (mark.Got n) = false
+markMore mark.Wrong = false
+markMore mark.Cut = true
+
+abbrev pub numberFound : Number → Found ℕ
+numberFound (number.Got v n) = got v n
+numberFound number.Wrong = no
+numberFound number.Cut = no
+
+abbrev pub numberMore : Number → Bool
+numberMore (number.Got v n) = false
+numberMore number.Wrong = false
+numberMore number.Cut = true
+
+-- an input that ends inside a field
+abbrev pub cutField : Bool → Number
+cutField true = number.Cut
+cutField false = number.Wrong
+
+abbrev pub signFound : Signed → Found Bool
+signFound (sign.Got m n) = got m n
+signFound sign.Wrong = no
+signFound sign.Cut = no
+
+abbrev pub signMore : Signed → Bool
+signMore (sign.Got m n) = false
+signMore sign.Wrong = false
+signMore sign.Cut = true
+
+abbrev pub runFound : Run → Found ℕ
+runFound (run.Got v n m) = got v n
+runFound run.TooBig = stop 2
+runFound run.Wrong = no
+runFound run.Cut = no
+
+abbrev pub runMore : Run → Bool
+runMore (run.Got v n m) = m
+runMore run.TooBig = false
+runMore run.Wrong = false
+runMore run.Cut = true
+
+-- a run of one digit or more, or of none, that the end of the input ends, or another byte
+abbrev pub foundRun : Bool → Bool → ℕ → ℕ → Run
+foundRun true more v n = run.Got v n more
+foundRun false true v n = run.Cut
+foundRun false false v n = run.Wrong

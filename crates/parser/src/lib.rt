@@ -1,0 +1,347 @@
+// Single bytes, digit fields, digit runs, the sign and the fraction, each read from a place of the input (parser.rs). A place
+// past the end is the end, and nothing is asked of a caller.
+ghost use mathlib.Core.Path.{_≡_};
+ghost use Prim.Native.Nat.{_+_, _-_, _^_, _<_};
+ghost use lib.Dec.{leb, ltb};
+ghost use lib.ListN.{length, drop, replicate};
+ghost use Rattle.parser.specs.Reading.{lit, Says};
+ghost use Rattle.parser.specs.Digits.{field, run, fraction, reach, lowest, highest, runAt, numberFrom};
+ghost use Rattle.parser.specs.Fields.{either, month, day, hour, minute, second, signed};
+ghost use Rattle.parser.specs.Read.{cutField, markFound, markMore, numberFound, numberMore, signFound, signMore, foundRun, runFound, runMore};
+
+// What a single byte finds: it, something else, or the end of the input.
+pub enum Mark {
+    Got { next: usize },
+    Wrong,
+    Cut,
+}
+
+// What a field finds: a number; what no longer input can mend; or an end of the input that more bytes could mend.
+pub enum Number {
+    Got { value: u32, next: usize },
+    Wrong,
+    Cut,
+}
+
+pub enum Signed {
+    Got { minus: bool, next: usize },
+    Wrong,
+    Cut,
+}
+
+// What a digit run finds. `more`: it reaches the end of the input, where a digit could still be added.
+pub enum Run {
+    Got { value: u32, next: usize, more: bool },
+    TooBig,
+    Wrong,
+    Cut,
+}
+
+// The largest number that a digit run may have.
+pub const LIMIT: u64 = 4294967295;
+
+pub fn literal(s: &[u8], at: usize, c: u8) -> Mark
+    ensures { λ r. ⌜ Says (lit c) (now (s .entry)) at (markFound r) (markMore r) ⌝ }
+{
+    if at < s.len() {
+        if s[at] == c {
+            Mark::Got { next: at + 1 }
+        } else {
+            Mark::Wrong
+        }
+    } else {
+        Mark::Cut
+    }
+}
+
+// Whether the greatest number that `left` more digits make of `value` is at least `lo`.
+fn can_be_at_least(lo: u32, left: usize, value: u64) -> bool
+    ensures { λ r. ⌜ r ≡ leb lo (highest left value) ⌝ }
+{
+    let mut high = value;
+    let mut n = left;
+    while 0 < n {
+        if (lo as u64) <= high {
+            return true;
+        }
+        high = high * 10 + 9;
+        n = n - 1;
+    }
+    (lo as u64) <= high
+}
+
+// Whether the least number that `left` more digits make of `value` is at most `hi`.
+fn can_be_at_most(hi: u32, left: usize, value: u64) -> bool
+    ensures { λ r. ⌜ r ≡ leb (lowest left value) hi ⌝ }
+{
+    let mut low = value;
+    let mut n = left;
+    while 0 < n {
+        if (hi as u64) < low {
+            return false;
+        }
+        low = low * 10;
+        n = n - 1;
+    }
+    low <= (hi as u64)
+}
+
+// What an input that ends before a field does finds: `left` digits more could still bring the number into its range, or not.
+fn cut_field(left: usize, lo: u32, hi: u32, value: u64) -> Number
+    ensures { λ r. ⌜ r ≡ cutField (reach lo hi left value) ⌝ }
+{
+    if can_be_at_least(lo, left, value) {
+        if can_be_at_most(hi, left, value) {
+            return Number::Cut;
+        }
+    }
+    Number::Wrong
+}
+
+// Exactly `places` digits, whose number lies from `lo` to `hi`.
+pub fn take_digits_in_range(s: &[u8], at: usize, places: usize, lo: u32, hi: u32) -> Number
+    ensures { λ r. ⌜ Says (field places lo hi) (now (s .entry)) at (numberFound r) (numberMore r) ⌝ }
+{
+    let top = hi as u64;
+    let mut value: u64 = 0;
+    let mut next = at;
+    let mut left = places;
+    while 0 < left {
+        if s.len() <= next {
+            return cut_field(left, lo, hi, value);
+        }
+        let b = s[next];
+        if b < 48 {
+            return Number::Wrong;
+        }
+        if 57 < b {
+            return Number::Wrong;
+        }
+        value = value * 10 + ((b - 48) as u64);
+        if top < value {
+            return Number::Wrong;
+        }
+        next = next + 1;
+        left = left - 1;
+    }
+    if value < (lo as u64) {
+        return Number::Wrong;
+    }
+    Number::Got {
+        value: value as u32,
+        next,
+    }
+}
+
+// Exactly 1 digit
+pub fn digit_1(s: &[u8], at: usize) -> Number
+    ensures { λ r. ⌜ Says (field 1 0 9) (now (s .entry)) at (numberFound r) (numberMore r) ⌝ }
+{
+    take_digits_in_range(s, at, 1, 0, 9)
+}
+
+// Exactly 2 digits
+pub fn digit_2(s: &[u8], at: usize) -> Number
+    ensures { λ r. ⌜ Says (field 2 0 99) (now (s .entry)) at (numberFound r) (numberMore r) ⌝ }
+{
+    take_digits_in_range(s, at, 2, 0, 99)
+}
+
+// Exactly 3 digits
+pub fn digit_3(s: &[u8], at: usize) -> Number
+    ensures { λ r. ⌜ Says (field 3 0 999) (now (s .entry)) at (numberFound r) (numberMore r) ⌝ }
+{
+    take_digits_in_range(s, at, 3, 0, 999)
+}
+
+// Exactly 4 digits
+pub fn digit_4(s: &[u8], at: usize) -> Number
+    ensures { λ r. ⌜ Says (field 4 0 9999) (now (s .entry)) at (numberFound r) (numberMore r) ⌝ }
+{
+    take_digits_in_range(s, at, 4, 0, 9999)
+}
+
+// MM
+pub fn date_month(s: &[u8], at: usize) -> Number
+    ensures { λ r. ⌜ Says month (now (s .entry)) at (numberFound r) (numberMore r) ⌝ }
+{
+    take_digits_in_range(s, at, 2, 1, 12)
+}
+
+// DD
+pub fn date_day(s: &[u8], at: usize) -> Number
+    ensures { λ r. ⌜ Says day (now (s .entry)) at (numberFound r) (numberMore r) ⌝ }
+{
+    take_digits_in_range(s, at, 2, 1, 31)
+}
+
+// HH
+pub fn time_hour(s: &[u8], at: usize) -> Number
+    ensures { λ r. ⌜ Says hour (now (s .entry)) at (numberFound r) (numberMore r) ⌝ }
+{
+    take_digits_in_range(s, at, 2, 0, 23)
+}
+
+// MM
+pub fn time_minute(s: &[u8], at: usize) -> Number
+    ensures { λ r. ⌜ Says minute (now (s .entry)) at (numberFound r) (numberMore r) ⌝ }
+{
+    take_digits_in_range(s, at, 2, 0, 59)
+}
+
+// SS
+pub fn time_second(s: &[u8], at: usize) -> Number
+    ensures { λ r. ⌜ Says second (now (s .entry)) at (numberFound r) (numberMore r) ⌝ }
+{
+    take_digits_in_range(s, at, 2, 0, 60)
+}
+
+// Either of two bytes.
+pub fn one_of(s: &[u8], at: usize, c: u8, d: u8) -> Mark
+    ensures { λ r. ⌜ Says (either c d) (now (s .entry)) at (markFound r) (markMore r) ⌝ }
+{
+    if at < s.len() {
+        let b = s[at];
+        if b == c {
+            return Mark::Got { next: at + 1 };
+        }
+        if b == d {
+            return Mark::Got { next: at + 1 };
+        }
+        Mark::Wrong
+    } else {
+        Mark::Cut
+    }
+}
+
+// `-` or `+`.
+pub fn sign(s: &[u8], at: usize) -> Signed
+    ensures { λ r. ⌜ Says signed (now (s .entry)) at (signFound r) (signMore r) ⌝ }
+{
+    if at < s.len() {
+        let b = s[at];
+        if b == 45 {
+            return Signed::Got {
+                minus: true,
+                next: at + 1,
+            };
+        }
+        if b == 43 {
+            return Signed::Got {
+                minus: false,
+                next: at + 1,
+            };
+        }
+        Signed::Wrong
+    } else {
+        Signed::Cut
+    }
+}
+
+// What a run from `at` to `next` is. `more`: the input ends there.
+fn found_run(at: usize, next: usize, value: u32, more: bool) -> Run
+    ensures { λ r. ⌜ r ≡ foundRun (ltb at next) more value next ⌝ }
+{
+    if at < next {
+        return Run::Got { value, next, more };
+    }
+    if more { Run::Cut } else { Run::Wrong }
+}
+
+// A run of one digit or more, with any number of leading zeros.
+pub fn take_digits(s: &[u8], at: usize) -> Run
+    ensures { λ r. ⌜ Says run (now (s .entry)) at (runFound r) (runMore r) ⌝ }
+{
+    let mut value: u32 = 0;
+    let mut next = at;
+    while next < s.len() {
+        let b = s[next];
+        if b < 48 {
+            return found_run(at, next, value, false);
+        }
+        if 57 < b {
+            return found_run(at, next, value, false);
+        }
+        let wide = (value as u64) * 10 + ((b - 48) as u64);
+        if LIMIT < wide {
+            return Run::TooBig;
+        }
+        value = wide as u32;
+        next = next + 1;
+    }
+    found_run(at, next, value, true)
+}
+
+// The place after the digits that stand from `at` on.
+fn digits_end(s: &[u8], at: usize) -> usize
+    ensures { λ r. ⌜ r ≡ at + length (runAt (now (s .entry)) at) ⌝ }
+{
+    let mut next = at;
+    while next < s.len() {
+        let b = s[next];
+        if b < 48 {
+            return next;
+        }
+        if 57 < b {
+            return next;
+        }
+        next = next + 1;
+    }
+    next
+}
+
+// The number of `l` digits with zeros put behind them, nine in all.
+fn padded(value: u32, l: usize) -> u32
+    requires { ⌜ numberFrom value (replicate (9 - l) 48) < 2 ^ 32 ⌝ }
+    ensures { λ r. ⌜ r ≡ numberFrom value (replicate (9 - l) 48) ⌝ }
+{
+    let mut result = value;
+    let mut n = l;
+    while n < 9 {
+        result = result * 10;
+        n = n + 1;
+    }
+    result
+}
+
+// The fraction of a second after its comma or point, in nanoseconds: digits past the ninth are read and dropped.
+pub fn fraction_nanosecond(s: &[u8], at: usize) -> Run
+    ensures { λ r. ⌜ Says fraction (now (s .entry)) at (runFound r) (runMore r) ⌝ }
+{
+    let mut value: u32 = 0;
+    let mut next = at;
+    let mut l: usize = 0;
+    while l < 9 {
+        if s.len() <= next {
+            return found_run(at, next, padded(value, l), true);
+        }
+        let b = s[next];
+        if b < 48 {
+            return found_run(at, next, padded(value, l), false);
+        }
+        if 57 < b {
+            return found_run(at, next, padded(value, l), false);
+        }
+        value = value * 10 + ((b - 48) as u32);
+        next = next + 1;
+        l = l + 1;
+    }
+    let end = digits_end(s, next);
+    Run::Got {
+        value,
+        next: end,
+        more: s.len() <= end,
+    }
+}
+
+// The bytes from a count on: what a reader that took so many leaves.
+pub fn leftover(s: &[u8], count: usize) -> &[u8]
+    ensures { λ r. ⌜ now r ≡ drop count (now (s .entry)) ⌝ }
+{
+    if count <= s.len() {
+        &s[count..]
+    } else {
+        let all = s.len();
+        &s[all..]
+    }
+}

@@ -1,0 +1,63 @@
+-- What holds of every offset that the constructor makes.
+use Prim.Native.Nat.{ℕ, zero, suc, _+_, _*_, _≤_, _<_}
+use mathlib.Core.Bool.{Bool, true, false}
+use mathlib.Core.Path.{_≡_, refl, sym, _∙_}
+use native.Mathlib.Omega.{arith}
+use borrow.Author.Tests.{leb-true, le-leb, le-ltb}
+use lib.Dec.{leb, ltb}
+use lib.IntN.{ℤ, pos, negsuc, negℤ, _+ℤ_, _*ℤ_, negℤ-+ℤ}
+use Rattle.types.specs.declared.Offset.{Offset}
+use Rattle.types.specs.declared.Duration.{Duration}
+use Rattle.types.specs.declared.MadeOffset.{MadeOffset}
+use Rattle.types.specs.declared.MadeOffset.the-variants.{Made, Outside}
+use Rattle.types.specs.Sums.{and, withSign, signedOffset, made, pickMade, minutesInAll, betweenTheEnds, inRange, sameSign, secondsOf}
+
+neg-times : (n : ℕ) → negℤ (pos n) *ℤ pos 60 ≡ negℤ (pos (n * 60))
+neg-times zero = refl
+neg-times (suc n) = refl
+
+-- the minutes in all of a sign, hours and minutes carry that sign: `-00:30` is -30 and never +30
+pub minutes-carry-the-sign : (minus : Bool) (h m : ℕ) → minutesInAll (signedOffset minus h m) ≡ withSign minus (h * 60 + m)
+minutes-carry-the-sign false h m = refl
+minutes-carry-the-sign true h m = rw (neg-times h) (sym (negℤ-+ℤ (pos (h * 60)) (pos m)))
+
+between : (minus : Bool) (n : ℕ) → n ≤ 1439 → betweenTheEnds (withSign minus n) ≡ true
+between false n h = le-leb n 1439 h
+between true zero h = refl
+between true (suc n) h = rw (le-ltb 1438 n (omega arith))
+
+-- the largest offset, of either sign, is 1,439 minutes
+in-range : (minus : Bool) (h m : ℕ) → h ≤ 23 → m ≤ 59 → inRange (signedOffset minus h m) ≡ true
+unfolding inRange
+in-range minus h m hh hm = rw (minutes-carry-the-sign minus h m) (between minus (h * 60 + m) (omega arith))
+
+same-sign : (minus : Bool) (h m : ℕ) → sameSign (signedOffset minus h m) ≡ true
+unfolding sameSign
+same-sign false h m = rw (le-leb 0 h (omega arith), le-leb 0 m (omega arith))
+same-sign true zero zero = refl
+same-sign true (suc h) zero = refl
+same-sign true zero (suc m) = refl
+same-sign true (suc h) (suc m) = refl
+
+pub record Proper (o : Offset) : Type 0 where
+  pub one-sign : sameSign o ≡ true
+  pub within : inRange o ≡ true
+
+-- what the constructor makes has one sign and lies between the ends
+pub made-is-proper : (minus : Bool) (h m : ℕ) (o : Offset) → made minus h m ≡ Made o → Proper o
+unfolding made
+made-is-proper minus h m o e = go (leb h 23) (leb m 59) refl refl e
+  where
+    outside : Outside ≡ Made o → ⊥
+    outside e = let z : _≡_ {A = ℕ} 0 1 = cc in omega arith
+
+    go : (a b : Bool) → leb h 23 ≡ a → leb m 59 ≡ b → pickMade (and a b) (Made (signedOffset minus h m)) ≡ Made o → Proper o
+    go true true ea eb e =
+        let same : signedOffset minus h m ≡ o = cc in
+        record { one-sign = rw (sym same) (same-sign minus h m); within = rw (sym same) (in-range minus h m (leb-true h 23 ea) (leb-true m 59 eb)) }
+    go true false ea eb e = absurd (outside e)
+    go false b ea eb e = absurd (outside e)
+
+-- `P1Y2M3DT4H5M6S`
+pub seconds-example : secondsOf (record { years = 1; months = 2; weeks = 0; days = 3; hours = 4; minutes = 5; seconds = 6 }) ≡ 36993906
+seconds-example = refl

@@ -1,0 +1,179 @@
+// The records that the readers make, the refusals and the verdict, and the small sums over them (types.rs).
+ghost use mathlib.Core.Path.{_≡_};
+ghost use mathlib.Core.Bool.{Bool};
+ghost use lib.IntN.{ℤ, pos};
+ghost use Rattle.types.specs.Sums.{withSign, minutesInAll, inRange, made, secondsOf, isZero, hasTime};
+
+// Whether a longer input could still get another answer.
+pub enum Verdict {
+    Settled,
+    Open,
+}
+
+// Why no record is given.
+pub enum Refusal {
+    NoForm,
+    TooBig,
+    LeftOver,
+}
+
+// A calendar, week or ordinal date. A year before 0 is negative.
+pub enum Date {
+    YMD { year: i32, month: u32, day: u32 },
+    Week { year: i32, week: u32, day: u32 },
+    Ordinal { year: i32, day: u32 },
+}
+
+// A shift from UTC. Hours and minutes carry the same sign, or are zero.
+pub struct Offset {
+    pub hours: i32,
+    pub minutes: i32,
+}
+
+// An offset that may be absent: absent is not zero.
+pub enum TimeOffset {
+    Absent,
+    Given(Offset),
+}
+
+pub struct Time {
+    pub hour: u32,
+    pub minute: u32,
+    pub second: u32,
+    pub nanosecond: u32,
+    pub offset: TimeOffset,
+}
+
+pub struct DateTime {
+    pub date: Date,
+    pub time: Time,
+}
+
+pub struct Duration {
+    pub years: u32,
+    pub months: u32,
+    pub weeks: u32,
+    pub days: u32,
+    pub hours: u32,
+    pub minutes: u32,
+    pub seconds: u32,
+}
+
+// What the constructor of an offset gives.
+pub enum MadeOffset {
+    Made(Offset),
+    Outside,
+}
+
+// The number, negated where `minus` is set.
+pub fn with_sign(minus: bool, n: u16) -> i32
+    ensures { λ r. ⌜ r ≡ withSign minus n ⌝ }
+{
+    let up = n as i32;
+    if minus { 0 - up } else { up }
+}
+
+impl Offset {
+    // The ends of the range of an offset's minutes in all, and the offset of `Z`.
+    pub const MIN_MINUTES: i64 = -1439;
+
+    pub const MAX_MINUTES: i64 = 1439;
+
+    pub const ZERO: Offset = Offset {
+        hours: 0,
+        minutes: 0,
+    };
+
+    // The offset of a sign, hours 0 to 23 and minutes 0 to 59; anything else lies outside.
+    pub fn new(minus: bool, hours: u32, minutes: u32) -> MadeOffset
+        ensures { λ r. ⌜ r ≡ made minus hours minutes ⌝ }
+    {
+        if 23 < hours {
+            return MadeOffset::Outside;
+        }
+        if 59 < minutes {
+            return MadeOffset::Outside;
+        }
+        MadeOffset::Made(Offset {
+            hours: with_sign(minus, hours as u16),
+            minutes: with_sign(minus, minutes as u16),
+        })
+    }
+
+    // Sixty times the hours plus the minutes, of every offset: one that `new` made lies between the ends.
+    pub fn minutes_in_all(self) -> i64
+        ensures { λ r. ⌜ r ≡ minutesInAll self ⌝ }
+    {
+        let h = self.hours as i64;
+        let m = self.minutes as i64;
+        h * 60 + m
+    }
+
+    // Whether the minutes in all lie between the ends, both included.
+    pub fn in_range(self) -> bool
+        ensures { λ r. ⌜ r ≡ inRange self ⌝ }
+    {
+        let all = self.minutes_in_all();
+        if all < Offset::MIN_MINUTES {
+            return false;
+        }
+        all <= Offset::MAX_MINUTES
+    }
+}
+
+impl Duration {
+    // Whether all seven fields are 0.
+    pub fn is_zero(self) -> bool
+        ensures { λ r. ⌜ r ≡ isZero self ⌝ }
+    {
+        if 0 < self.years {
+            return false;
+        }
+        if 0 < self.months {
+            return false;
+        }
+        if 0 < self.weeks {
+            return false;
+        }
+        if 0 < self.days {
+            return false;
+        }
+        if 0 < self.hours {
+            return false;
+        }
+        if 0 < self.minutes {
+            return false;
+        }
+        self.seconds == 0
+    }
+
+    // Whether days, hours, minutes and seconds are all above 0: the original's meaning, odd as it is.
+    pub fn has_time(self) -> bool
+        ensures { λ r. ⌜ r ≡ hasTime self ⌝ }
+    {
+        if self.days == 0 {
+            return false;
+        }
+        if self.hours == 0 {
+            return false;
+        }
+        if self.minutes == 0 {
+            return false;
+        }
+        0 < self.seconds
+    }
+
+    // The seconds in all, with years of 365 days and months of 30, exact for every record.
+    pub fn in_seconds(self) -> u64
+        ensures { λ r. ⌜ r ≡ secondsOf self ⌝ }
+    {
+        let days = (self.years as u64) * 365
+            + (self.months as u64) * 30
+            + (self.weeks as u64) * 7
+            + (self.days as u64);
+        days * 86400
+            + (self.hours as u64) * 3600
+            + (self.minutes as u64) * 60
+            + (self.seconds as u64)
+    }
+}
