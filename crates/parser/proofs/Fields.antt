@@ -3,6 +3,7 @@ use Prim.Native.Nat.{ℕ, zero, suc, _+_, _*_, _-_, _<_, _≤_}
 use mathlib.Core.List.{List, [], _∷_, _++_, append-assoc}
 use mathlib.Core.Bool.{Bool, true, false, not}
 use mathlib.Core.Path.{_≡_, refl, sym, ap, _∙_}
+use mathlib.Core.Logic.{_⊎_, inl, inr}
 use native.Mathlib.Omega.{arith}
 use native.Mathlib.Numerals.{add-one, sub-one}
 use lib.ListN.{length, getD, length-append, List·getD-append}
@@ -21,6 +22,10 @@ pick-same false e = refl
 pub and-right : (a : Bool) {b : Bool} → b ≡ false → and a b ≡ false
 and-right true e = e
 and-right false e = refl
+
+pub and-first : (a b : Bool) → and a b ≡ true → a ≡ true
+and-first true b e = refl
+and-first false b e = e
 
 pub and-second : (a : Bool) {b : Bool} → and a b ≡ true → b ≡ true
 and-second true e = e
@@ -52,15 +57,21 @@ pub record DigitAt (s : List ℕ) (at : ℕ) : Type 0 where
   pub inside : ltb at (length s) ≡ true
   pub is : isDigit (getD s at 0) ≡ true
 
-pub digitsFrom-step : (lo hi n v : ℕ) (s : List ℕ) (at : ℕ) → 0 < n → DigitAt s at → digitsFrom lo hi n v s at ≡ digitsFrom lo hi (n - 1) (v * 10 + (getD s at 0 - 48)) s (at + 1)
+pub digitsFrom-suc : (lo hi n v : ℕ) (s : List ℕ) (at : ℕ) → DigitAt s at → digitsFrom lo hi (suc n) v s at ≡ digitsFrom lo hi n (v * 10 + (getD s at 0 - 48)) s (at + 1)
 unfolding digitsFrom
+digitsFrom-suc lo hi n v s at d = rw (d .inside, d .is)
+
+pub digitsMore-suc : (lo hi n v : ℕ) (s : List ℕ) (at : ℕ) → DigitAt s at → digitsMore lo hi (suc n) v s at ≡ digitsMore lo hi n (v * 10 + (getD s at 0 - 48)) s (at + 1)
+unfolding digitsMore
+digitsMore-suc lo hi n v s at d = rw (d .inside, d .is)
+
+pub digitsFrom-step : (lo hi n v : ℕ) (s : List ℕ) (at : ℕ) → 0 < n → DigitAt s at → digitsFrom lo hi n v s at ≡ digitsFrom lo hi (n - 1) (v * 10 + (getD s at 0 - 48)) s (at + 1)
 digitsFrom-step lo hi zero v s at h d = absurd (omega arith)
-digitsFrom-step lo hi (suc n) v s at h d = rw (sub-one (suc n), d .inside, d .is)
+digitsFrom-step lo hi (suc n) v s at h d = rw (sub-one (suc n)) (digitsFrom-suc lo hi n v s at d)
 
 pub digitsMore-step : (lo hi n v : ℕ) (s : List ℕ) (at : ℕ) → 0 < n → DigitAt s at → digitsMore lo hi n v s at ≡ digitsMore lo hi (n - 1) (v * 10 + (getD s at 0 - 48)) s (at + 1)
-unfolding digitsMore
 digitsMore-step lo hi zero v s at h d = absurd (omega arith)
-digitsMore-step lo hi (suc n) v s at h d = rw (sub-one (suc n), d .inside, d .is)
+digitsMore-step lo hi (suc n) v s at h d = rw (sub-one (suc n)) (digitsMore-suc lo hi n v s at d)
 
 -- another byte stands at a place
 pub record OtherAt (s : List ℕ) (at : ℕ) : Type 0 where
@@ -98,15 +109,59 @@ unfolding digitsMore
 digitsMore-end lo hi zero v s at h e = absurd (omega arith)
 digitsMore-end lo hi (suc n) v s at h e = rw e
 
--- a number above the range stays above it, whatever digits follow
-pub above-no : (lo hi n v : ℕ) (s : List ℕ) (at : ℕ) → hi < v → digitsFrom lo hi n v s at ≡ no
-unfolding digitsFrom
-above-no lo hi zero v s at h = rw (and-right (leb lo v) (lt-leb v hi h))
-above-no lo hi (suc n) v s at h = pick-same (digit s at) (above-no lo hi n (v * 10 + (getD s at 0 - 48)) s (at + 1) (omega arith))
+lowest-mono : (n v w : ℕ) → v ≤ w → lowest n v ≤ lowest n w
+unfolding lowest
+lowest-mono zero v w h = h
+lowest-mono (suc n) v w h = lowest-mono n (v * 10) (w * 10) (omega arith)
 
-pub above-settled : (lo hi n v : ℕ) (s : List ℕ) (at : ℕ) → hi < v → digitsMore lo hi n v s at ≡ false
+highest-mono : (n v w : ℕ) → v ≤ w → highest n v ≤ highest n w
+unfolding highest
+highest-mono zero v w h = h
+highest-mono (suc n) v w h = highest-mono n (v * 10 + 9) (w * 10 + 9) (omega arith)
+
+-- no n more digits after v make a number from lo to hi
+abbrev pub Out : ℕ → ℕ → ℕ → ℕ → Type 0
+Out lo hi n v = (highest n v < lo) ⊎ (hi < lowest n v)
+
+pub out-of-reach : (lo hi n v : ℕ) → reach lo hi n v ≡ false → Out lo hi n v
+unfolding reach
+out-of-reach lo hi n v h = go (leb lo (highest n v)) refl h
+  where
+    go : (t : Bool) → leb lo (highest n v) ≡ t → and t (leb (lowest n v) hi) ≡ false → Out lo hi n v
+    go true e h = inr (leb-false (lowest n v) hi h)
+    go false e h = inl (leb-false lo (highest n v) e)
+
+out-step : (lo hi n v d : ℕ) → d ≤ 9 → Out lo hi (suc n) v → Out lo hi n (v * 10 + d)
+unfolding lowest highest
+out-step lo hi n v d hd (inl h) = inl (omega (arith, h, highest-mono n (v * 10 + d) (v * 10 + 9) (omega arith)))
+out-step lo hi n v d hd (inr h) = inr (omega (arith, h, lowest-mono n (v * 10) (v * 10 + d) (omega arith)))
+
+pub out-no : (lo hi n v : ℕ) (s : List ℕ) (at : ℕ) → Out lo hi n v → digitsFrom lo hi n v s at ≡ no
+unfolding digitsFrom lowest highest
+out-no lo hi zero v s at (inl h) = rw (lt-leb lo v h)
+out-no lo hi zero v s at (inr h) = rw (and-right (leb lo v) (lt-leb v hi h))
+out-no lo hi (suc n) v s at o = go (isDigit (getD s at 0)) refl (λ h. out-no lo hi n (v * 10 + (getD s at 0 - 48)) s (at + 1) (out-step lo hi n v (getD s at 0 - 48) h o))
+  where
+    go : (t : Bool) → isDigit (getD s at 0) ≡ t → (getD s at 0 - 48 ≤ 9 → digitsFrom lo hi n (v * 10 + (getD s at 0 - 48)) s (at + 1) ≡ no) → pick (and (ltb at (length s)) (isDigit (getD s at 0))) (digitsFrom lo hi n (v * 10 + (getD s at 0 - 48)) s (at + 1)) no ≡ no
+    go true e ih = pick-same (and (ltb at (length s)) (isDigit (getD s at 0))) (ih (omega (arith, leb-true (getD s at 0) 57 (and-second (leb 48 (getD s at 0)) e))))
+    go false e ih = rw (and-right (ltb at (length s)) e)
+
+pub out-settled : (lo hi n v : ℕ) (s : List ℕ) (at : ℕ) → Out lo hi n v → digitsMore lo hi n v s at ≡ false
 unfolding digitsMore reach
-above-settled lo hi zero v s at h = refl
-above-settled lo hi (suc n) v s at h =
-    let out : reach lo hi (suc n) v ≡ false = and-right (leb lo (highest (suc n) v)) (lt-leb (lowest (suc n) v) hi (omega (arith, lowest-grows (suc n) v))) in
-    pick-same (ltb at (length s)) (pick-same (digit s at) (above-settled lo hi n (v * 10 + (getD s at 0 - 48)) s (at + 1) (omega arith)) ∙ sym out) ∙ out
+out-settled lo hi zero v s at o = refl
+out-settled lo hi (suc n) v s at o = go (isDigit (getD s at 0)) refl (λ h. out-settled lo hi n (v * 10 + (getD s at 0 - 48)) s (at + 1) (out-step lo hi n v (getD s at 0 - 48) h o))
+  where
+    not-reached : Out lo hi (suc n) v → and (leb lo (highest (suc n) v)) (leb (lowest (suc n) v) hi) ≡ false
+    not-reached (inl h) = rw (lt-leb lo (highest (suc n) v) h)
+    not-reached (inr h) = and-right (leb lo (highest (suc n) v)) (lt-leb (lowest (suc n) v) hi h)
+
+    within-input : (t : Bool) → isDigit (getD s at 0) ≡ t → (getD s at 0 - 48 ≤ 9 → digitsMore lo hi n (v * 10 + (getD s at 0 - 48)) s (at + 1) ≡ false) → pick (and (ltb at (length s)) (isDigit (getD s at 0))) (digitsMore lo hi n (v * 10 + (getD s at 0 - 48)) s (at + 1)) false ≡ false
+    within-input true e ih = pick-same (and (ltb at (length s)) (isDigit (getD s at 0))) (ih (omega (arith, leb-true (getD s at 0) 57 (and-second (leb 48 (getD s at 0)) e))))
+    within-input false e ih = rw (and-right (ltb at (length s)) e)
+
+    go : (t : Bool) → isDigit (getD s at 0) ≡ t → (getD s at 0 - 48 ≤ 9 → digitsMore lo hi n (v * 10 + (getD s at 0 - 48)) s (at + 1) ≡ false) → pick (ltb at (length s)) (pick (and (ltb at (length s)) (isDigit (getD s at 0))) (digitsMore lo hi n (v * 10 + (getD s at 0 - 48)) s (at + 1)) false) (and (leb lo (highest (suc n) v)) (leb (lowest (suc n) v) hi)) ≡ false
+    go t e ih = pick-same (ltb at (length s)) (within-input t e ih ∙ sym (not-reached o)) ∙ not-reached o
+
+-- a number above the range stays above it, whatever digits follow
+pub above : (lo hi n v : ℕ) → hi < v → Out lo hi n v
+above lo hi n v h = inr (omega (arith, lowest-grows n v))

@@ -34,6 +34,39 @@ unfolding numberFrom
 number-grows [] v = omega arith
 number-grows (b ∷ d) v = omega (arith, number-grows d (v * 10 + (b - 48)))
 
+pub number-append : (a b : List ℕ) (v : ℕ) → numberFrom v (a ++ b) ≡ numberFrom (numberFrom v a) b
+unfolding numberFrom
+number-append [] b v = refl
+number-append (c ∷ a) b v = number-append a b (v * 10 + (c - 48))
+
+-- a longer input has the same run where it ends inside, and else one that begins with it
+pub digits-short : (l : List ℕ) → length (digits l) ≤ length l
+unfolding digits
+digits-short [] = omega arith
+digits-short (b ∷ l) = go (isDigit b) (digits-short l)
+  where
+    go : (t : Bool) → length (digits l) ≤ length l → length (pick t (b ∷ digits l) []) ≤ suc (length l)
+    go true h = omega arith
+    go false h = omega arith
+
+pub digits-inside : (l x : List ℕ) → length (digits l) < length l → digits (l ++ x) ≡ digits l
+unfolding digits
+digits-inside [] x h = absurd (omega arith)
+digits-inside (b ∷ l) x h = go (isDigit b) h (digits-inside l x)
+  where
+    go : (t : Bool) → length (pick t (b ∷ digits l) []) < suc (length l) → (length (digits l) < length l → digits (l ++ x) ≡ digits l) → pick t (b ∷ digits (l ++ x)) [] ≡ pick t (b ∷ digits l) []
+    go true h ih = ap (λ (d : List ℕ). b ∷ d) (ih (omega arith))
+    go false h ih = refl
+
+pub digits-more : (l x : List ℕ) → (y : List ℕ) × (digits (l ++ x) ≡ digits l ++ y)
+unfolding digits
+digits-more [] x = (digits x, refl)
+digits-more (b ∷ l) x = go (isDigit b) (digits-more l x)
+  where
+    go : (t : Bool) → (y : List ℕ) × (digits (l ++ x) ≡ digits l ++ y) → (y : List ℕ) × (pick t (b ∷ digits (l ++ x)) [] ≡ pick t (b ∷ digits l) [] ++ y)
+    go true (y, e) = (y, ap (λ (d : List ℕ). b ∷ d) e)
+    go false ih = ([], refl)
+
 -- bytes up to `9`
 data Digits : List ℕ → Type 0 where
   none : Digits []

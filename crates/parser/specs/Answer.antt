@@ -40,6 +40,10 @@ restOf s (got a n) = drop n s
 restOf s no = s
 restOf s (stop r) = s
 
+abbrev pub verdictOf : Bool → Verdict
+verdictOf true = Open
+verdictOf false = Settled
+
 -- settled: each longer input gets the same answer; open: some continuation, of at most k bytes, gets another
 abbrev pub Judged : {A : Type 0} → ℕ → Reader A → List ℕ → Verdict → Type 0
 Judged k p s Settled = (x : List ℕ) → begun (p .reads (s ++ x) 0) ≡ begun (p .reads s 0)

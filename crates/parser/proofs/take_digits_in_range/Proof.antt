@@ -11,7 +11,7 @@ use borrow.Author.Tests.{lt-ltb, le-ltb, le-leb, lt-leb}
 use Rattle.parser.specs.Reading.{Says, within, pick, got, no}
 use Rattle.parser.specs.Digits.{field, digitsFrom, digitsMore, reach}
 use Rattle.parser.specs.Read.{numberFound, numberMore, cutField}
-use Rattle.parser.proofs.Fields.{DigitAt, OtherAt, digit-at, below-digits, above-digits, digitsFrom-step, digitsMore-step, digitsFrom-other, digitsMore-other, digitsFrom-end, digitsMore-end, above-no, above-settled}
+use Rattle.parser.proofs.Fields.{DigitAt, OtherAt, digit-at, below-digits, above-digits, digitsFrom-step, digitsMore-step, digitsFrom-other, digitsMore-other, digitsFrom-end, digitsMore-end, above, out-no, out-settled}
 use Rattle.parser.proofs.take_digits_in_range.Statement.{statement}
 use Rattle.parser.proofs.take_digits_in_range.Tie as tie
 
@@ -41,8 +41,8 @@ module _ (lo hi places : ℕ) (s : List ℕ) (at value next left : ℕ) (g : Goi
   past : 0 < left → DigitAt s next → hi < value * 10 + (getD s next 0 - 48) → Says (field places lo hi) s at no false
   unfolding field
   past h d a = record {
-    found = sym (digitsFrom-step lo hi left value s next h d ∙ above-no lo hi (left - 1) (value * 10 + (getD s next 0 - 48)) s (next + 1) a) ∙ g .found;
-    more = sym (digitsMore-step lo hi left value s next h d ∙ above-settled lo hi (left - 1) (value * 10 + (getD s next 0 - 48)) s (next + 1) a) ∙ g .more;
+    found = sym (digitsFrom-step lo hi left value s next h d ∙ out-no lo hi (left - 1) (value * 10 + (getD s next 0 - 48)) s (next + 1) (above lo hi (left - 1) (value * 10 + (getD s next 0 - 48)) a)) ∙ g .found;
+    more = sym (digitsMore-step lo hi left value s next h d ∙ out-settled lo hi (left - 1) (value * 10 + (getD s next 0 - 48)) s (next + 1) (above lo hi (left - 1) (value * 10 + (getD s next 0 - 48)) a)) ∙ g .more;
   }
 
   onward : 0 < left → DigitAt s next → value * 10 + (getD s next 0 - 48) ≤ hi → Going lo hi places s at (value * 10 + (getD s next 0 - 48)) (next + 1) (left - 1)

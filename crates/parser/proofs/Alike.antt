@@ -1,0 +1,48 @@
+-- Two readers that read alike; and a common beginning, which is read once for several alternatives.
+use Prim.Native.Nat.{ℕ, _≤_}
+use mathlib.Core.List.{List, _∷_, _++_}
+use mathlib.Core.Bool.{Bool, true, false}
+use mathlib.Core.Path.{_≡_, refl, sym, ap, _∙_}
+use lib.ListN.{length}
+use Rattle.parser.specs.Reading.{Found, no, got, stop, Reader, seq, then, after, alt, orElse, failed, or, and, Says}
+use Rattle.parser.proofs.Hopeful.{Ends, Hopeful}
+
+pub record AlikeAt {A : Type 0} (p q : Reader A) (s : List ℕ) (at : ℕ) : Type 0 where
+  pub reads : p .reads s at ≡ q .reads s at
+  pub more : p .more s at ≡ q .more s at
+
+abbrev pub Alike : {A : Type 0} → Reader A → Reader A → Type 0
+Alike p q = (s : List ℕ) (at : ℕ) → AlikeAt p q s at
+
+pub alike-refl : {A : Type 0} (p : Reader A) → Alike p p
+alike-refl p s at = record { reads = refl; more = refl }
+
+-- `alt (seq p f) (seq p g)` reads as `seq p` of the alternatives, and is open where that is
+pub common-beginning : {A B : Type 0} (p : Reader A) (f g : A → Reader B) (q : Reader B) → Alike q (seq p g) → Alike (alt (seq p f) q) (seq p (λ a. alt (f a) (g a)))
+unfolding alt seq
+common-beginning {A} {B} p f g q e s at = go (p .reads s at) refl
+  where
+    go : (x : Found A) → p .reads s at ≡ x → AlikeAt (alt (seq p f) q) (seq p (λ a. alt (f a) (g a))) s at
+    go no ex = record { reads = rw (e s at .reads, ex); more = rw (e s at .more, ex) (or-nothing (p .more s at)) }
+      where
+        or-nothing : (m : Bool) → or (or m false) (or m false) ≡ or m false
+        or-nothing true = refl
+        or-nothing false = refl
+    go (stop r) ex = record { reads = rw (e s at .reads, ex); more = rw (e s at .more, ex) (or-nothing (p .more s at)) }
+      where
+        or-nothing : (m : Bool) → or (or m false) false ≡ or m false
+        or-nothing true = refl
+        or-nothing false = refl
+    go (got a n) ex = record { reads = rw (e s at .reads, ex); more = rw (e s at .more, ex) (tail (p .more s at) (f a .more s n) (failed (f a .reads s n)) (g a .more s n)) }
+      where
+        tail : (m x y z : Bool) → or (or m x) (and y (or m z)) ≡ or m (or x (and y z))
+        tail true x y z = refl
+        tail false x y z = refl
+
+pub alike-says : {A : Type 0} (p q : Reader A) → Alike p q → (s : List ℕ) (at : ℕ) (f : Found A) (m : Bool) → Says q s at f m → Says p s at f m
+alike-says p q e s at f m h = record { found = h .found ∙ sym (e s at .reads); more = h .more ∙ sym (e s at .more) }
+
+pub alike-hopeful : {A : Type 0} {k : ℕ} {F : A → Type 0} (p q : Reader A) → Alike p q → Hopeful k F q → Hopeful k F p
+alike-hopeful p q e hq s at le h =
+    let x = hq s at le (sym (e s at .more) ∙ h) in
+    record { first = x .first; rest = x .rest; value = x .value; begins = x .begins; few = x .few; fact = x .fact; reads = e (s ++ x .first ∷ x .rest) at .reads ∙ x .reads }

@@ -1,0 +1,215 @@
+-- Where a byte more could matter, some few bytes more are read to the last one.
+use Prim.Native.Nat.{ℕ, zero, suc, _+_, _*_, _-_, _<_, _≤_}
+use mathlib.Core.List.{List, [], _∷_, _++_, append-assoc}
+use mathlib.Core.Bool.{Bool, true, false, not}
+use mathlib.Core.Option.{Option, some, none}
+use mathlib.Core.Path.{_≡_, refl, sym, ap, _∙_}
+use native.Mathlib.Omega.{arith}
+use lib.ListN.{length, getD, length-append}
+use lib.Seq.{getD-append-seam}
+use lib.Dec.{ltb, leb, eqb}
+use borrow.Author.Tests.{ltb-true, ltb-false, lt-ltb, eq-eqb, not-true}
+use Rattle.parser.specs.Reading.{Found, no, got, stop, Reader, lit, seq, then, after, opt, lack, alt, orElse, failed, verify, keep, map, mapFound, give, pick, or, and}
+use Rattle.parser.proofs.Fields.{true≢false}
+use Rattle.parser.proofs.Stable.{Stable, Same}
+use Rattle.parser.proofs.Places.{no≢got, stop≢got, Bounded, Fails, Skips, Foreign}
+
+-- At most k bytes, the first of them one of X, after which p reads everything from the place on, and a fact F of what it reads.
+pub record Ends {A : Type 0} (k : ℕ) (X : ℕ → Type 0) (F : A → Type 0) (p : Reader A) (s : List ℕ) (at : ℕ) : Type 0 where
+  pub first : ℕ
+  pub rest : List ℕ
+  pub value : A
+  pub begins : X first
+  pub few : suc (length rest) ≤ k
+  pub fact : F value
+  pub reads : p .reads (s ++ first ∷ rest) at ≡ got value (length (s ++ first ∷ rest))
+
+abbrev pub AnyByte : ℕ → Type 0
+AnyByte c = Unit
+
+abbrev pub Anything : {A : Type 0} → A → Type 0
+Anything a = Unit
+
+-- wherever a byte more could matter
+abbrev pub Hopeful : {A : Type 0} → ℕ → (A → Type 0) → Reader A → Type 0
+Hopeful k F p = (s : List ℕ) (at : ℕ) → at ≤ length s → p .more s at ≡ true → Ends k AnyByte F p s at
+
+-- from the end of any input on
+abbrev pub Starts : {A : Type 0} → ℕ → (ℕ → Type 0) → (A → Type 0) → Reader A → Type 0
+Starts k X F p = (s : List ℕ) → Ends k X F p s (length s)
+
+-- what has been read to the end is read the same where a byte of X follows
+abbrev pub Keeps : {A : Type 0} → (ℕ → Type 0) → Reader A → Type 0
+Keeps {A} X p = (s : List ℕ) (at : ℕ) (a : A) → p .reads s at ≡ got a (length s) → at ≤ length s → (c : ℕ) (y : List ℕ) → X c → p .reads (s ++ c ∷ y) at ≡ got a (length s)
+
+-- what is found leaves nothing open
+abbrev pub Definite : {A : Type 0} → Reader A → Type 0
+Definite {A} p = (s : List ℕ) (at : ℕ) (a : A) (n : ℕ) → p .reads s at ≡ got a n → p .more s at ≡ false
+
+pub definite-keeps : {A : Type 0} (p : Reader A) → Stable p → Definite p → Keeps AnyByte p
+definite-keeps p sp dp s at a e le c y x = sp s (c ∷ y) at (dp s at a (length s) e) .reads ∙ e
+
+pub foreign-keeps : {A : Type 0} (X : ℕ → Type 0) (p : Reader A) → Foreign X p → Keeps X p
+foreign-keeps X p fp s at a e le c y x = fp s c y at x le ∙ e
+
+-- ---- the same end under a weaker claim
+
+pub ends-weaken : {A : Type 0} {j : ℕ} (k : ℕ) {X : ℕ → Type 0} (Y : ℕ → Type 0) {E : A → Type 0} (F : A → Type 0) {p : Reader A} {s : List ℕ} {at : ℕ} → j ≤ k → ((c : ℕ) → X c → Y c) → ((a : A) → E a → F a) → Ends j X E p s at → Ends k Y F p s at
+ends-weaken k Y F h f g e = record { first = e .first; rest = e .rest; value = e .value; begins = f (e .first) (e .begins); few = omega (arith, e .few); fact = g (e .value) (e .fact); reads = e .reads }
+
+-- open at the end of the input alone
+abbrev pub AtEnd : {A : Type 0} → Reader A → Type 0
+AtEnd p = (s : List ℕ) (at : ℕ) → p .more s at ≡ true → length s ≤ at
+
+pub at-end-definite : {A : Type 0} (p : Reader A) → AtEnd p → Fails p → Definite p
+at-end-definite p ep fp s at a n e = go (p .more s at) refl
+  where
+    go : (m : Bool) → p .more s at ≡ m → p .more s at ≡ false
+    go true h = absurd (no≢got (sym (fp s at (ep s at h)) ∙ e))
+    go false h = h
+
+pub map-definite : {A B : Type 0} (f : A → B) (p : Reader A) → Definite p → Definite (map f p)
+unfolding map
+map-definite {A} f p dp s at b n e = go (p .reads s at) refl e
+  where
+    go : (x : Found A) → p .reads s at ≡ x → mapFound f x ≡ got b n → p .more s at ≡ false
+    go no ex e = absurd (no≢got e)
+    go (stop r) ex e = absurd (stop≢got e)
+    go (got a m) ex e = dp s at a m ex
+
+pub seq-definite : {A B : Type 0} (p : Reader A) (q : A → Reader B) → Definite p → ((a : A) → Definite (q a)) → Definite (seq p q)
+unfolding seq
+seq-definite {A} p q dp dq s at b n e = go (p .reads s at) refl e
+  where
+    go : (x : Found A) → p .reads s at ≡ x → then x (λ a m. q a .reads s m) ≡ got b n → or (p .more s at) (after x (λ a m. q a .more s m)) ≡ false
+    go no ex e = absurd (no≢got e)
+    go (stop r) ex e = absurd (stop≢got e)
+    go (got a m) ex e = rw (dp s at a m ex) (dq a s m b n e)
+
+-- an optional item that is open at the end alone, before what fails there
+pub opt-seq-definite : {A B : Type 0} (p : Reader A) (q : Option A → Reader B) → AtEnd p → Fails p → ((o : Option A) → Definite (q o)) → Fails (q none) → Definite (seq (opt p) q)
+unfolding seq opt
+opt-seq-definite {A} p q ep fp dq fq s at b n e = go (p .more s at) refl
+  where
+    rest : p .more s at ≡ false → (x : Found A) → p .reads s at ≡ x → then (lack at x) (λ a m. q a .reads s m) ≡ got b n → or (p .more s at) (after (lack at x) (λ a m. q a .more s m)) ≡ false
+    rest em no ex e = rw em (dq none s at b n e)
+    rest em (stop r) ex e = absurd (stop≢got e)
+    rest em (got a m) ex e = rw em (dq (some a) s m b n e)
+
+    go : (m : Bool) → p .more s at ≡ m → or (p .more s at) (after (lack at (p .reads s at)) (λ a m. q a .more s m)) ≡ false
+    go true h = let end = ep s at h in absurd (no≢got (sym (rw (fp s at end, fq s at end)) ∙ e))
+    go false h = rest h (p .reads s at) refl e
+
+pub starts-hopeful : {A : Type 0} {k : ℕ} {X : ℕ → Type 0} {F : A → Type 0} (p : Reader A) → AtEnd p → Starts k X F p → Hopeful k F p
+starts-hopeful {A} {k} {X} {F} p ep st s at le h =
+    let here : length s ≡ at = omega (arith, ep s at h) in
+    rw (← here) (ends-weaken k AnyByte F (omega arith) (λ c x. tt) (λ a f. f) (st s))
+
+pub hopeful-starts : {A : Type 0} {k : ℕ} {F : A → Type 0} (p : Reader A) → ((s : List ℕ) → p .more s (length s) ≡ true) → Hopeful k F p → Starts k AnyByte F p
+hopeful-starts p mp hp s = hp s (length s) (omega arith) (mp s)
+
+-- ---- an end of a part is an end of the whole
+
+pub ends-map : {A B : Type 0} {k : ℕ} {X : ℕ → Type 0} {E : A → Type 0} (F : B → Type 0) (f : A → B) (p : Reader A) {s : List ℕ} {at : ℕ} → ((a : A) → E a → F (f a)) → Ends k X E p s at → Ends k X F (map f p) s at
+unfolding map
+ends-map F f p g e = record { first = e .first; rest = e .rest; value = f (e .value); begins = e .begins; few = e .few; fact = g (e .value) (e .fact); reads = rw (e .reads) }
+
+pub ends-verify : {A : Type 0} {k : ℕ} {X : ℕ → Type 0} {F : A → Type 0} (f : A → Bool) (p : Reader A) {s : List ℕ} {at : ℕ} → ((a : A) → F a → f a ≡ true) → Ends k X F p s at → Ends k X F (verify f p) s at
+unfolding verify
+ends-verify f p g e = record { first = e .first; rest = e .rest; value = e .value; begins = e .begins; few = e .few; fact = e .fact; reads = rw (e .reads, g (e .value) (e .fact)) }
+
+pub ends-opt : {A : Type 0} {k : ℕ} {X : ℕ → Type 0} {E : A → Type 0} (F : Option A → Type 0) (p : Reader A) {s : List ℕ} {at : ℕ} → ((a : A) → E a → F (some a)) → Ends k X E p s at → Ends k X F (opt p) s at
+unfolding opt
+ends-opt F p g e = record { first = e .first; rest = e .rest; value = some (e .value); begins = e .begins; few = e .few; fact = g (e .value) (e .fact); reads = rw (e .reads) }
+
+pub ends-alt : {A : Type 0} {k : ℕ} {X : ℕ → Type 0} {F : A → Type 0} (p q : Reader A) {s : List ℕ} {at : ℕ} → Ends k X F p s at → Ends k X F (alt p q) s at
+unfolding alt
+ends-alt p q e = record { first = e .first; rest = e .rest; value = e .value; begins = e .begins; few = e .few; fact = e .fact; reads = rw (e .reads) }
+
+-- p is read to the end, and what follows takes nothing there
+pub ends-then-skips : {A B : Type 0} {k : ℕ} {X : ℕ → Type 0} {E : A → Type 0} (F : B → Type 0) (p : Reader A) (q : A → Reader B) {s : List ℕ} {at : ℕ} → ((a : A) → E a → Skips F (q a)) → Ends k X E p s at → Ends k X F (seq p q) s at
+unfolding seq
+ends-then-skips F p q {s} hq e =
+    let o = hq (e .value) (e .fact) (s ++ e .first ∷ e .rest) (length (s ++ e .first ∷ e .rest)) (omega arith) in
+    record { first = e .first; rest = e .rest; value = o .0; begins = e .begins; few = e .few; fact = o .1 .0; reads = rw (e .reads, o .1 .1) }
+
+-- p is read to the end, and what follows starts with a byte that leaves p as it is
+pub ends-then-starts : {A B : Type 0} (j k : ℕ) {X : ℕ → Type 0} (Y : ℕ → Type 0) {E : A → Type 0} (F : B → Type 0) (p : Reader A) (q : A → Reader B) {s : List ℕ} {at : ℕ} → at ≤ length s → Keeps Y p → ((a : A) → E a → Starts k Y F (q a)) → Ends j X E p s at → Ends (j + k) X F (seq p q) s at
+unfolding seq
+ends-then-starts j k Y F p q {s} {at} le kp hq e =
+    let t = s ++ e .first ∷ e .rest in
+    let o = hq (e .value) (e .fact) t in
+    let same : s ++ e .first ∷ (e .rest ++ o .first ∷ o .rest) ≡ t ++ o .first ∷ o .rest = sym (append-assoc s (e .first ∷ e .rest) (o .first ∷ o .rest)) in
+    record {
+      first = e .first;
+      rest = e .rest ++ o .first ∷ o .rest;
+      value = o .value;
+      begins = e .begins;
+      few = rw length-append (omega (arith, e .few, o .few));
+      fact = o .fact;
+      reads = rw (same, kp t at (e .value) (e .reads) (omega (arith, length-append s (e .first ∷ e .rest))) (o .first) (o .rest) (o .begins), o .reads);
+    }
+
+-- p is settled with a value, and what follows is read on from there
+pub ends-read-on : {A B : Type 0} {k : ℕ} {X : ℕ → Type 0} {F : B → Type 0} (p : Reader A) (q : A → Reader B) {s : List ℕ} {at : ℕ} → Stable p → p .more s at ≡ false → (a : A) (n : ℕ) → p .reads s at ≡ got a n → Ends k X F (q a) s n → Ends k X F (seq p q) s at
+unfolding seq
+ends-read-on p q {s} {at} sp em a n ef e =
+    record { first = e .first; rest = e .rest; value = e .value; begins = e .begins; few = e .few; fact = e .fact; reads = rw (sp s (e .first ∷ e .rest) at em .reads, ef, e .reads) }
+
+-- p has been read to the end already, and what follows starts with a byte that leaves p as it is; so an optional item is left out
+pub ends-after : {A B : Type 0} {k : ℕ} {X : ℕ → Type 0} {F : B → Type 0} (p : Reader A) (q : A → Reader B) (s : List ℕ) (at : ℕ) → at ≤ length s → Keeps X p → (a : A) → p .reads s at ≡ got a (length s) → Starts k X F (q a) → Ends k X F (seq p q) s at
+unfolding seq
+ends-after p q s at le kp a ea st =
+    let e = st s in
+    record { first = e .first; rest = e .rest; value = e .value; begins = e .begins; few = e .few; fact = e .fact; reads = rw (kp s at a ea le (e .first) (e .rest) (e .begins), e .reads) }
+
+-- ---- hope, combinator by combinator
+
+pub map-hopeful : {A B : Type 0} {k : ℕ} {E : A → Type 0} (F : B → Type 0) (f : A → B) (p : Reader A) → ((a : A) → E a → F (f a)) → Hopeful k E p → Hopeful k F (map f p)
+unfolding map
+map-hopeful F f p g hp s at le h = ends-map F f p g (hp s at le h)
+
+pub verify-hopeful : {A : Type 0} {k : ℕ} {F : A → Type 0} (f : A → Bool) (p : Reader A) → ((a : A) → F a → f a ≡ true) → Hopeful k F p → Hopeful k F (verify f p)
+unfolding verify
+verify-hopeful f p g hp s at le h = ends-verify f p g (hp s at le h)
+
+pub opt-hopeful : {A : Type 0} {k : ℕ} {E : A → Type 0} (F : Option A → Type 0) (p : Reader A) → ((a : A) → E a → F (some a)) → Hopeful k E p → Hopeful k F (opt p)
+unfolding opt
+opt-hopeful F p g hp s at le h = ends-opt F p g (hp s at le h)
+
+pub give-hopeful : {A : Type 0} {k : ℕ} {F : A → Type 0} (a : A) → Hopeful k F (give a)
+unfolding give
+give-hopeful a s at le h = absurd (true≢false (sym h))
+
+or-true : (a b : Bool) → a ≡ false → or a b ≡ true → b ≡ true
+or-true true b e h = absurd (true≢false e)
+or-true false b e h = h
+
+pub alt-hopeful : {A : Type 0} {k : ℕ} {F : A → Type 0} (p q : Reader A) → Stable p → Hopeful k F p → Hopeful k F q → Hopeful k F (alt p q)
+unfolding alt
+alt-hopeful {A} {k} {F} p q sp hp hq s at le h = go (p .more s at) refl
+  where
+    second : p .more s at ≡ false → (f : Found A) → p .reads s at ≡ f → and (failed f) (q .more s at) ≡ true → Ends k AnyByte F (alt p q) s at
+    second em no ef h =
+        let e = hq s at le h in
+        record { first = e .first; rest = e .rest; value = e .value; begins = e .begins; few = e .few; fact = e .fact; reads = rw (sp s (e .first ∷ e .rest) at em .reads, ef, e .reads) }
+    second em (stop r) ef h = absurd (true≢false (sym h))
+    second em (got a n) ef h = absurd (true≢false (sym h))
+
+    go : (m : Bool) → p .more s at ≡ m → Ends k AnyByte F (alt p q) s at
+    go true em = ends-alt p q (hp s at le em)
+    go false em = second em (p .reads s at) refl (or-true _ _ em h)
+
+-- a sequence: how it ends where its first part is open, and the hope of what follows
+pub seq-hopeful : {A B : Type 0} {k : ℕ} {F : B → Type 0} (p : Reader A) (q : A → Reader B) → Stable p → Bounded p → ((s : List ℕ) (at : ℕ) → at ≤ length s → p .more s at ≡ true → Ends k AnyByte F (seq p q) s at) → ((a : A) → Hopeful k F (q a)) → Hopeful k F (seq p q)
+unfolding seq
+seq-hopeful {A} {B} {k} {F} p q sp bp hp hq s at le h = go (p .more s at) refl
+  where
+    second : p .more s at ≡ false → (f : Found A) → p .reads s at ≡ f → after f (λ a n. q a .more s n) ≡ true → Ends k AnyByte F (seq p q) s at
+    second em no ef h = absurd (true≢false (sym h))
+    second em (stop r) ef h = absurd (true≢false (sym h))
+    second em (got a n) ef h = ends-read-on p q sp em a n ef (hq a s n (bp s at le a n ef) h)
+
+    go : (m : Bool) → p .more s at ≡ m → Ends k AnyByte F (seq p q) s at
+    go true em = hp s at le em
+    go false em = second em (p .reads s at) refl (or-true _ _ em h)

@@ -1,0 +1,276 @@
+-- Where a reading ends, what it finds at the end of the input, and what it makes of a byte that it never takes.
+use Prim.Native.Nat.{ℕ, zero, suc, _+_, _*_, _-_, _<_, _≤_}
+use mathlib.Core.List.{List, [], _∷_, _++_}
+use mathlib.Core.Bool.{Bool, true, false, not}
+use mathlib.Core.Option.{Option, some, none}
+use mathlib.Core.Path.{_≡_, refl, sym, ap, _∙_}
+use native.Mathlib.Omega.{arith}
+use lib.ListN.{length, getD, drop, length-append, length-drop, drop-of-length-le, List·getD-append}
+use lib.Seq.{getD-append-seam, drop-append-le}
+use lib.Dec.{ltb, leb, eqb}
+use borrow.Author.Tests.{ltb-true, ltb-false, leb-true, lt-ltb, le-ltb}
+use Rattle.parser.specs.Reading.{Found, no, got, stop, Reader, lit, seq, then, opt, lack, alt, orElse, verify, keep, map, mapFound, give, pick, and}
+use Rattle.parser.specs.Digits.{isDigit, digitsFrom, field, digits, number, numberFrom, runAt, ofRun, limit, run, nanoseconds, fraction}
+use Rattle.parser.proofs.Fields.{DigitAt, OtherAt, digitsFrom-suc, digitsFrom-other, digitsFrom-end, true≢false}
+use Rattle.parser.proofs.Runs.{run-end, digits-short}
+
+pub no≢got : {A : Type 0} {a : A} {n : ℕ} → no ≡ got a n → ⊥
+no≢got e = let z : _≡_ {A = ℕ} 0 1 = cc in omega arith
+
+pub stop≢got : {A : Type 0} {a : A} {n r : ℕ} → stop r ≡ got a n → ⊥
+stop≢got e = let z : _≡_ {A = ℕ} 0 1 = cc in omega arith
+
+pub got-place : {A : Type 0} {a b : A} {m n : ℕ} → got a m ≡ got b n → m ≡ n
+got-place e = cc
+
+pub got-value : {A : Type 0} {a b : A} {m n : ℕ} → got a m ≡ got b n → a ≡ b
+got-value e = cc
+
+-- ---- what is found ends within the input
+
+abbrev pub Bounded : {A : Type 0} → Reader A → Type 0
+Bounded {A} p = (s : List ℕ) (at : ℕ) → at ≤ length s → (a : A) (n : ℕ) → p .reads s at ≡ got a n → n ≤ length s
+
+pub lit-bounded : (c : ℕ) → Bounded (lit c)
+unfolding lit
+lit-bounded c s at le a n e = go (ltb at (length s)) (eqb (getD s at 0) c) refl e
+  where
+    go : (t u : Bool) → ltb at (length s) ≡ t → pick (and t u) (got tt (at + 1)) no ≡ got a n → n ≤ length s
+    go true true i e = omega (arith, ltb-true at (length s) i, got-place e)
+    go true false i e = absurd (no≢got e)
+    go false u i e = absurd (no≢got e)
+
+pub give-bounded : {A : Type 0} (v : A) → Bounded (give v)
+unfolding give
+give-bounded v s at le a n e = omega (arith, got-place e)
+
+pub seq-bounded : {A B : Type 0} (p : Reader A) (q : A → Reader B) → Bounded p → ((a : A) → Bounded (q a)) → Bounded (seq p q)
+unfolding seq
+seq-bounded {A} p q hp hq s at le b n e = go (p .reads s at) refl e
+  where
+    go : (f : Found A) → p .reads s at ≡ f → then f (λ a m. q a .reads s m) ≡ got b n → n ≤ length s
+    go no ef e = absurd (no≢got e)
+    go (stop r) ef e = absurd (stop≢got e)
+    go (got a m) ef e = hq a s m (hp s at le a m ef) b n e
+
+pub opt-bounded : {A : Type 0} (p : Reader A) → Bounded p → Bounded (opt p)
+unfolding opt
+opt-bounded {A} p hp s at le b n e = go (p .reads s at) refl e
+  where
+    go : (f : Found A) → p .reads s at ≡ f → lack at f ≡ got b n → n ≤ length s
+    go no ef e = omega (arith, got-place e)
+    go (stop r) ef e = absurd (stop≢got e)
+    go (got a m) ef e = omega (arith, got-place e, hp s at le a m ef)
+
+pub alt-bounded : {A : Type 0} (p q : Reader A) → Bounded p → Bounded q → Bounded (alt p q)
+unfolding alt
+alt-bounded {A} p q hp hq s at le b n e = go (p .reads s at) refl e
+  where
+    go : (f : Found A) → p .reads s at ≡ f → orElse f (q .reads s at) ≡ got b n → n ≤ length s
+    go no ef e = hq s at le b n e
+    go (stop r) ef e = absurd (stop≢got e)
+    go (got a m) ef e = hp s at le b n (ef ∙ e)
+
+pub verify-bounded : {A : Type 0} (f : A → Bool) (p : Reader A) → Bounded p → Bounded (verify f p)
+unfolding verify
+verify-bounded {A} f p hp s at le b n e = go (p .reads s at) refl e
+  where
+    kept : (a : A) (m : ℕ) → p .reads s at ≡ got a m → (t : Bool) → pick t (got a m) no ≡ got b n → n ≤ length s
+    kept a m ef true e = hp s at le b n (ef ∙ e)
+    kept a m ef false e = absurd (no≢got e)
+
+    go : (x : Found A) → p .reads s at ≡ x → keep f x ≡ got b n → n ≤ length s
+    go no ef e = absurd (no≢got e)
+    go (stop r) ef e = absurd (stop≢got e)
+    go (got a m) ef e = kept a m ef (f a) e
+
+pub map-bounded : {A B : Type 0} (f : A → B) (p : Reader A) → Bounded p → Bounded (map f p)
+unfolding map
+map-bounded {A} f p hp s at le b n e = go (p .reads s at) refl e
+  where
+    go : (x : Found A) → p .reads s at ≡ x → mapFound f x ≡ got b n → n ≤ length s
+    go no ef e = absurd (no≢got e)
+    go (stop r) ef e = absurd (stop≢got e)
+    go (got a m) ef e = omega (arith, got-place e, hp s at le a m ef)
+
+digits-bounded : (lo hi n v : ℕ) (s : List ℕ) (at : ℕ) → at ≤ length s → (a m : ℕ) → digitsFrom lo hi n v s at ≡ got a m → m ≤ length s
+unfolding digitsFrom
+digits-bounded lo hi zero v s at le a m e = go (and (leb lo v) (leb v hi)) e
+  where
+    go : (t : Bool) → pick t (got v at) no ≡ got a m → m ≤ length s
+    go true e = omega (arith, got-place e)
+    go false e = absurd (no≢got e)
+digits-bounded lo hi (suc n) v s at le a m e = go (ltb at (length s)) (isDigit (getD s at 0)) refl e (λ h. digits-bounded lo hi n (v * 10 + (getD s at 0 - 48)) s (at + 1) h a m)
+  where
+    go : (t u : Bool) → ltb at (length s) ≡ t → pick (and t u) (digitsFrom lo hi n (v * 10 + (getD s at 0 - 48)) s (at + 1)) no ≡ got a m → (at + 1 ≤ length s → digitsFrom lo hi n (v * 10 + (getD s at 0 - 48)) s (at + 1) ≡ got a m → m ≤ length s) → m ≤ length s
+    go true true i e ih = ih (omega (arith, ltb-true at (length s) i)) e
+    go true false i e ih = absurd (no≢got e)
+    go false u i e ih = absurd (no≢got e)
+
+pub field-bounded : (n lo hi : ℕ) → Bounded (field n lo hi)
+unfolding field
+field-bounded n lo hi s at le a m e = digits-bounded lo hi n 0 s at le a m e
+
+run-short : (s : List ℕ) (at : ℕ) → at ≤ length s → at + length (runAt s at) ≤ length s
+run-short s at le = omega (arith, digits-short (drop at s), length-drop at s)
+
+pub run-bounded : Bounded run
+unfolding run
+run-bounded s at le a n e = go (runAt s at) (run-short s at le) e
+  where
+    fits : (d : List ℕ) → at + length d ≤ length s → (t : Bool) → pick t (got (number d) (at + length d)) (stop 2) ≡ got a n → n ≤ length s
+    fits d h true e = omega (arith, got-place e)
+    fits d h false e = absurd (stop≢got e)
+
+    go : (d : List ℕ) → at + length d ≤ length s → ofRun d no (pick (leb (number d) limit) (got (number d) (at + length d)) (stop 2)) ≡ got a n → n ≤ length s
+    go [] h e = absurd (no≢got e)
+    go (b ∷ d) h e = fits (b ∷ d) h (leb (number (b ∷ d)) limit) e
+
+pub fraction-bounded : Bounded fraction
+unfolding fraction
+fraction-bounded s at le a n e = go (runAt s at) (run-short s at le) e
+  where
+    go : (d : List ℕ) → at + length d ≤ length s → ofRun d no (got (nanoseconds d) (at + length d)) ≡ got a n → n ≤ length s
+    go [] h e = absurd (no≢got e)
+    go (b ∷ d) h e = omega (arith, got-place e)
+
+-- ---- past the end every reader fails alike, and an optional item takes nothing
+
+abbrev pub Fails : {A : Type 0} → Reader A → Type 0
+Fails p = (s : List ℕ) (at : ℕ) → length s ≤ at → p .reads s at ≡ no
+
+-- what takes nothing past the end, and a fact of what it gives there
+abbrev pub Skips : {A : Type 0} → (A → Type 0) → Reader A → Type 0
+Skips {A} F p = (s : List ℕ) (at : ℕ) → length s ≤ at → (a : A) × (F a × (p .reads s at ≡ got a at))
+
+pub lit-fails : (c : ℕ) → Fails (lit c)
+unfolding lit
+lit-fails c s at h = rw (le-ltb at (length s) h)
+
+pub field-fails : (n lo hi : ℕ) → 0 < n → Fails (field n lo hi)
+unfolding field
+field-fails n lo hi pos s at h = digitsFrom-end lo hi n 0 s at pos (le-ltb at (length s) h)
+
+pub run-fails : Fails run
+unfolding run
+run-fails s at h = rw (run-end s at h)
+
+pub fraction-fails : Fails fraction
+unfolding fraction
+fraction-fails s at h = rw (run-end s at h)
+
+pub seq-fails : {A B : Type 0} (p : Reader A) (q : A → Reader B) → Fails p → Fails (seq p q)
+unfolding seq
+seq-fails p q hp s at h = rw (hp s at h)
+
+pub alt-fails : {A : Type 0} (p q : Reader A) → Fails p → Fails q → Fails (alt p q)
+unfolding alt
+alt-fails p q hp hq s at h = rw (hp s at h, hq s at h)
+
+pub verify-fails : {A : Type 0} (f : A → Bool) (p : Reader A) → Fails p → Fails (verify f p)
+unfolding verify
+verify-fails f p hp s at h = rw (hp s at h)
+
+pub map-fails : {A B : Type 0} (f : A → B) (p : Reader A) → Fails p → Fails (map f p)
+unfolding map
+map-fails f p hp s at h = rw (hp s at h)
+
+pub opt-skips : {A : Type 0} (F : Option A → Type 0) (p : Reader A) → F none → Fails p → Skips F (opt p)
+unfolding opt
+opt-skips F p f hp s at h = (none, (f, rw (hp s at h)))
+
+pub give-skips : {A : Type 0} (F : A → Type 0) (a : A) → F a → Skips F (give a)
+unfolding give
+give-skips F a f s at h = (a, (f, refl))
+
+pub seq-skips : {A B : Type 0} (E : A → Type 0) (F : B → Type 0) (p : Reader A) (q : A → Reader B) → Skips E p → ((a : A) → E a → Skips F (q a)) → Skips F (seq p q)
+unfolding seq
+seq-skips E F p q hp hq s at h =
+    let e = hp s at h in
+    let g = hq (e .0) (e .1 .0) s at h in
+    (g .0, (g .1 .0, rw (e .1 .1, g .1 .1)))
+
+pub map-skips : {A B : Type 0} (E : A → Type 0) (F : B → Type 0) (f : A → B) (p : Reader A) → ((a : A) → E a → F (f a)) → Skips E p → Skips F (map f p)
+unfolding map
+map-skips E F f p k hp s at h = let e = hp s at h in (f (e .0), (k (e .0) (e .1 .0), rw (e .1 .1)))
+
+-- ---- a byte that a reader never takes reads as the end of the input does
+
+abbrev pub Foreign : {A : Type 0} → (ℕ → Type 0) → Reader A → Type 0
+Foreign X p = (s : List ℕ) (c : ℕ) (y : List ℕ) (at : ℕ) → X c → at ≤ length s → p .reads (s ++ c ∷ y) at ≡ p .reads s at
+
+pub lit-foreign : (X : ℕ → Type 0) (b : ℕ) → ((c : ℕ) → X c → eqb c b ≡ false) → Foreign X (lit b)
+unfolding lit
+lit-foreign X b k s c y at hx le = go (ltb at (length s)) refl
+  where
+    long : length s < length (s ++ c ∷ y)
+    long = omega (arith, length-append s (c ∷ y))
+
+    go : (t : Bool) → ltb at (length s) ≡ t → lit b .reads (s ++ c ∷ y) at ≡ lit b .reads s at
+    go true i = rw (i, lt-ltb at (length (s ++ c ∷ y)) (omega (arith, long, ltb-true at (length s) i)), List·getD-append s (c ∷ y) 0 at (ltb-true at (length s) i))
+    go false i =
+        let here : length s ≡ at = omega (arith, ltb-false at (length s) i) in
+        rw (i, lt-ltb at (length (s ++ c ∷ y)) (omega (arith, long)), ← here, getD-append-seam s c y 0, k c hx)
+
+pub give-foreign : {A : Type 0} (X : ℕ → Type 0) (a : A) → Foreign X (give a)
+unfolding give
+give-foreign X a s c y at hx le = refl
+
+pub seq-foreign : {A B : Type 0} (X : ℕ → Type 0) (p : Reader A) (q : A → Reader B) → Bounded p → Foreign X p → ((a : A) → Foreign X (q a)) → Foreign X (seq p q)
+unfolding seq
+seq-foreign {A} X p q bp hp hq s c y at hx le = rw (hp s c y at hx le) (go (p .reads s at) refl)
+  where
+    go : (f : Found A) → p .reads s at ≡ f → then f (λ a n. q a .reads (s ++ c ∷ y) n) ≡ then f (λ a n. q a .reads s n)
+    go no ef = refl
+    go (stop r) ef = refl
+    go (got a n) ef = hq a s c y n hx (bp s at le a n ef)
+
+pub opt-foreign : {A : Type 0} (X : ℕ → Type 0) (p : Reader A) → Foreign X p → Foreign X (opt p)
+unfolding opt
+opt-foreign X p hp s c y at hx le = rw (hp s c y at hx le)
+
+pub alt-foreign : {A : Type 0} (X : ℕ → Type 0) (p q : Reader A) → Foreign X p → Foreign X q → Foreign X (alt p q)
+unfolding alt
+alt-foreign X p q hp hq s c y at hx le = rw (hp s c y at hx le, hq s c y at hx le)
+
+pub verify-foreign : {A : Type 0} (X : ℕ → Type 0) (f : A → Bool) (p : Reader A) → Foreign X p → Foreign X (verify f p)
+unfolding verify
+verify-foreign X f p hp s c y at hx le = rw (hp s c y at hx le)
+
+pub map-foreign : {A B : Type 0} (X : ℕ → Type 0) (f : A → B) (p : Reader A) → Foreign X p → Foreign X (map f p)
+unfolding map
+map-foreign X f p hp s c y at hx le = rw (hp s c y at hx le)
+
+digits-foreign : (l : List ℕ) (c : ℕ) (y : List ℕ) → isDigit c ≡ false → digits (l ++ c ∷ y) ≡ digits l
+unfolding digits
+digits-foreign [] c y e = rw e
+digits-foreign (b ∷ l) c y e = rw (digits-foreign l c y e)
+
+run-foreign-at : (s : List ℕ) (c : ℕ) (y : List ℕ) (at : ℕ) → isDigit c ≡ false → at ≤ length s → runAt (s ++ c ∷ y) at ≡ runAt s at
+run-foreign-at s c y at e le = rw (drop-append-le at s (c ∷ y) le) (digits-foreign (drop at s) c y e)
+
+pub run-foreign : (X : ℕ → Type 0) → ((c : ℕ) → X c → isDigit c ≡ false) → Foreign X run
+unfolding run
+run-foreign X k s c y at hx le = rw (run-foreign-at s c y at (k c hx) le)
+
+pub fraction-foreign : (X : ℕ → Type 0) → ((c : ℕ) → X c → isDigit c ≡ false) → Foreign X fraction
+unfolding fraction
+fraction-foreign X k s c y at hx le = rw (run-foreign-at s c y at (k c hx) le)
+
+digitsFrom-foreign : (lo hi n v : ℕ) (s : List ℕ) (c : ℕ) (y : List ℕ) (at : ℕ) → isDigit c ≡ false → at ≤ length s → digitsFrom lo hi n v (s ++ c ∷ y) at ≡ digitsFrom lo hi n v s at
+unfolding digitsFrom
+digitsFrom-foreign lo hi zero v s c y at e le = refl
+digitsFrom-foreign lo hi (suc n) v s c y at e le = go (ltb at (length s)) refl (digitsFrom-foreign lo hi n (v * 10 + (getD s at 0 - 48)) s c y (at + 1) e)
+  where
+    long : length s < length (s ++ c ∷ y)
+    long = omega (arith, length-append s (c ∷ y))
+
+    go : (t : Bool) → ltb at (length s) ≡ t → (at + 1 ≤ length s → digitsFrom lo hi n (v * 10 + (getD s at 0 - 48)) (s ++ c ∷ y) (at + 1) ≡ digitsFrom lo hi n (v * 10 + (getD s at 0 - 48)) s (at + 1)) → digitsFrom lo hi (suc n) v (s ++ c ∷ y) at ≡ digitsFrom lo hi (suc n) v s at
+    go true i ih = rw (i, lt-ltb at (length (s ++ c ∷ y)) (omega (arith, long, ltb-true at (length s) i)), List·getD-append s (c ∷ y) 0 at (ltb-true at (length s) i), ih (omega (arith, ltb-true at (length s) i)))
+    go false i ih =
+        let here : length s ≡ at = omega (arith, ltb-false at (length s) i) in
+        rw (i, lt-ltb at (length (s ++ c ∷ y)) (omega (arith, long)), ← here, getD-append-seam s c y 0, e)
+
+pub field-foreign : (X : ℕ → Type 0) (n lo hi : ℕ) → ((c : ℕ) → X c → isDigit c ≡ false) → Foreign X (field n lo hi)
+unfolding field
+field-foreign X n lo hi k s c y at hx le = digitsFrom-foreign lo hi n 0 s c y at (k c hx) le

@@ -1,0 +1,50 @@
+-- The two verdicts of a reader that is stable and hopeful and ends within its input, and that no two answers meet one promise.
+use Prim.Native.Nat.{ℕ, _<_, _≤_}
+use mathlib.Core.List.{List, _∷_, _++_}
+use mathlib.Core.Bool.{Bool, true, false}
+use mathlib.Core.Option.{Option, some, none}
+use mathlib.Core.Path.{_≡_, refl, sym, ap, _∙_}
+use native.Mathlib.Omega.{arith}
+use lib.ListN.{length, length-append}
+use lib.Dec.{ltb}
+use Rattle.types.specs.declared.Verdict.{Verdict}
+use Rattle.types.specs.declared.Verdict.the-variants.{Settled, Open}
+use Rattle.parser.specs.Reading.{Found, no, got, stop, Reader, Says}
+use Rattle.parser.specs.Answer.{Told, recorded, refused, begun, Judged, Begins, verdictOf}
+use Rattle.parser.proofs.Stable.{Stable}
+use Rattle.parser.proofs.Places.{Bounded}
+use Rattle.parser.proofs.Hopeful.{Hopeful}
+
+-- the count of an answer lies within the input
+count-within : {A : Type 0} (p : Reader A) → Bounded p → (s : List ℕ) → begun (p .reads s 0) .count ≤ length s
+count-within {A} p bp s = go (p .reads s 0) refl
+  where
+    go : (f : Found A) → p .reads s 0 ≡ f → begun f .count ≤ length s
+    go no e = omega arith
+    go (stop r) e = omega arith
+    go (got a n) e = bp s 0 (omega arith) a n e
+
+pub settled : {A : Type 0} (k : ℕ) (p : Reader A) → Stable p → (s : List ℕ) → p .more s 0 ≡ false → Judged k p s Settled
+settled k p sp s h x = ap begun (sp s x 0 h .reads)
+
+pub open-within : {A : Type 0} (k : ℕ) (F : A → Type 0) (p : Reader A) → Bounded p → Hopeful k F p → (s : List ℕ) → p .more s 0 ≡ true → Judged k p s Open
+open-within {A} k F p bp hp s h =
+    let e = hp s 0 (omega arith) h in
+    let x = e .first ∷ e .rest in
+    let all : begun (p .reads (s ++ x) 0) .count ≡ length (s ++ x) = ap (λ (f : Found A). begun f .count) (e .reads) in
+    (x, (e .few, λ same. let c = ap (λ (t : Told A). t .count) same in omega (arith, all, count-within p bp s, length-append s x)))
+
+-- what code says of a reader is what it has to promise
+pub says-begins : {A : Type 0} (k : ℕ) (F : A → Type 0) (p : Reader A) → Stable p → Bounded p → Hopeful k F p → (s : List ℕ) (f : Found A) (m : Bool) → Says p s 0 f m → Begins k p s (begun f) (verdictOf m)
+says-begins k F p sp bp hp s f true h = record { answer = ap begun (h .found); verdict = open-within k F p bp hp s (sym (h .more)) }
+says-begins k F p sp bp hp s f false h = record { answer = ap begun (h .found); verdict = settled k p sp s (sym (h .more)) }
+
+-- an input has one verdict, and so the promise one answer
+one-verdict : {A : Type 0} (k : ℕ) (p : Reader A) (s : List ℕ) (v w : Verdict) → Judged k p s v → Judged k p s w → v ≡ w
+one-verdict k p s Settled Settled a b = refl
+one-verdict k p s Settled Open a b = absurd (b .1 .1 (a (b .0)))
+one-verdict k p s Open Settled a b = absurd (a .1 .1 (b (a .0)))
+one-verdict k p s Open Open a b = refl
+
+pub begins-once : {A : Type 0} (k : ℕ) (p : Reader A) (s : List ℕ) (t u : Told A) (v w : Verdict) → Begins k p s t v → Begins k p s u w → (t ≡ u) × (v ≡ w)
+begins-once k p s t u v w a b = (a .answer ∙ sym (b .answer), one-verdict k p s v w (a .verdict) (b .verdict))
