@@ -11,8 +11,8 @@ use lib.Dec.{ltb, leb, eqb}
 use borrow.Author.Tests.{ltb-true, ltb-false, lt-ltb, eq-eqb, not-true}
 use Rattle.parser.specs.Reading.{Found, no, got, stop, Reader, lit, seq, then, after, opt, lack, alt, orElse, failed, verify, keep, map, mapFound, give, pick, or, and}
 use Rattle.parser.proofs.Fields.{true≢false}
-use Rattle.parser.proofs.Stable.{Stable, Same}
-use Rattle.parser.proofs.Places.{no≢got, stop≢got, Bounded, Fails, Skips, Foreign}
+use Rattle.parser.proofs.Stable.{Stable, opt-stable}
+use Rattle.parser.proofs.Places.{no≢got, stop≢got, Bounded, Fails, Skips, Foreign, opt-bounded, opt-foreign}
 
 -- At most k bytes, the first of them one of X, after which p reads everything from the place on, and a fact F of what it reads.
 pub record Ends {A : Type 0} (k : ℕ) (X : ℕ → Type 0) (F : A → Type 0) (p : Reader A) (s : List ℕ) (at : ℕ) : Type 0 where
@@ -213,3 +213,17 @@ seq-hopeful {A} {B} {k} {F} p q sp bp hp hq s at le h = go (p .more s at) refl
     go : (m : Bool) → p .more s at ≡ m → Ends k AnyByte F (seq p q) s at
     go true em = hp s at le em
     go false em = second em (p .reads s at) refl (or-true _ _ em h)
+
+-- an optional item that is open at the end alone is left out there, where what follows starts with a byte that it never takes
+pub left-out-starts : {A B : Type 0} {k : ℕ} {F : B → Type 0} (X : ℕ → Type 0) (p : Reader A) (q : Option A → Reader B) → Fails p → Foreign X p → Starts k X F (q none) → Starts k X F (seq (opt p) q)
+unfolding opt
+left-out-starts X p q fp xp st s = ends-after (opt p) q s (length s) (omega arith) (foreign-keeps X (opt p) (opt-foreign X p xp)) none (rw (fp s (length s) (omega arith))) st
+
+pub left-out-hopeful : {A B : Type 0} {k : ℕ} {F : B → Type 0} (X : ℕ → Type 0) (p : Reader A) (q : Option A → Reader B) → Stable p → Bounded p → AtEnd p → Fails p → Foreign X p → Starts k X F (q none) → ((o : Option A) → Hopeful k F (q o)) → Hopeful k F (seq (opt p) q)
+unfolding opt
+left-out-hopeful {A} {B} {k} {F} X p q sp bp ep fp xp st hq = seq-hopeful (opt p) q (opt-stable p sp) (opt-bounded p bp) ends hq
+  where
+    ends : (s : List ℕ) (at : ℕ) → at ≤ length s → p .more s at ≡ true → Ends k AnyByte F (seq (opt p) q) s at
+    ends s at le h =
+        let here : length s ≡ at = omega (arith, ep s at h) in
+        rw (← here) (ends-weaken k AnyByte F (omega arith) (λ c x. tt) (λ b f. f) (left-out-starts X p q fp xp st s))

@@ -1,4 +1,4 @@
--- The hope of single bytes, fields, runs and the fraction: which bytes complete them.
+-- The hope of single bytes and fields: which bytes complete them.
 use Prim.Native.Nat.{ℕ, zero, suc, _+_, _*_, _-_, _<_, _≤_}
 use mathlib.Core.List.{List, [], _∷_, _++_, append-assoc, append-nil}
 use mathlib.Core.Bool.{Bool, true, false, not}
@@ -9,14 +9,15 @@ use native.Mathlib.Nat.{add-zero}
 use lib.ListN.{length, getD, drop, length-append, length-drop, List·getD-append}
 use lib.Seq.{getD-append-seam, drop-append-le, drop-length}
 use lib.Dec.{ltb, leb, eqb}
-use borrow.Author.Tests.{ltb-true, ltb-false, leb-true, leb-false, lt-ltb, le-ltb, le-leb, eq-eqb, not-true}
-use Rattle.parser.specs.Reading.{Found, no, got, stop, Reader, lit, seq, alt, orElse, failed, map, mapFound, pick, or, and}
+use borrow.Author.Tests.{ltb-true, ltb-false, leb-true, leb-false, lt-ltb, le-ltb, le-leb, eq-eqb, ne-eqb, not-true}
+use Rattle.parser.specs.Reading.{Found, no, got, stop, Reader, lit, seq, opt, alt, orElse, failed, map, mapFound, pick, or, and}
 use Rattle.parser.specs.Digits.{isDigit, digitsFrom, digitsMore, lowest, highest, reach, field, digits, number, numberFrom, runAt, ofRun, atTheEnd, limit, run, nanoseconds, fraction}
+use Rattle.parser.specs.Fields.{precededBy}
 use Rattle.parser.proofs.Fields.{true≢false, and-first, and-second, DigitAt, digit-at, digitsFrom-suc, digitsMore-suc, digitsFrom-other, digitsMore-other, digitsFrom-end, digitsMore-end, lowest-grows, highest-grows}
 use Rattle.parser.proofs.Runs.{run-end, digits-short}
-use Rattle.parser.proofs.Stable.{Stable, digit-stays, run-stable}
-use Rattle.parser.proofs.Places.{no≢got, got-place, Bounded, Fails, Foreign, lit-fails, run-bounded, run-foreign, run-fails}
-use Rattle.parser.proofs.Hopeful.{Ends, AnyByte, Anything, Hopeful, Starts, Keeps, Definite, AtEnd, at-end-definite, starts-hopeful, foreign-keeps, ends-after, ends-then-starts, seq-hopeful, ends-weaken}
+use Rattle.parser.proofs.Stable.{Stable, digit-stays, lit-stable, opt-stable, seq-stable, field-stable, run-stable}
+use Rattle.parser.proofs.Places.{no≢got, got-place, Bounded, Fails, Foreign, lit-fails, lit-bounded, lit-foreign, opt-bounded, opt-foreign, seq-bounded, seq-foreign, field-fails, field-bounded, field-foreign, run-bounded, run-foreign}
+use Rattle.parser.proofs.Hopeful.{Ends, AnyByte, Anything, Hopeful, Starts, Keeps, Definite, AtEnd, at-end-definite, starts-hopeful, foreign-keeps, ends-after, ends-then-starts, seq-hopeful, ends-weaken, left-out-starts, left-out-hopeful}
 
 -- ---- single bytes
 
@@ -232,74 +233,35 @@ pub field-within : (n lo hi : ℕ) (s : List ℕ) (at a m : ℕ) → field n lo 
 unfolding field
 field-within n lo hi s at a m e = digits-within lo hi n 0 s at a m e
 
--- ---- runs: a zero begins one, and a letter behind a run ends it
+-- an optional byte in front of a field, left out where the input ends
+digit-is-not : (c : ℕ) → isDigit c ≡ false → (b : ℕ) → DigitByte b → eqb b c ≡ false
+digit-is-not c h b d = ne-eqb b c (λ e. true≢false (sym d ∙ rw e h))
 
-run-reaches : (s : List ℕ) (at : ℕ) → at ≤ length s → atTheEnd s at ≡ true → at + length (runAt s at) ≡ length s
-run-reaches s at le h = omega (arith, digits-short (drop at s), length-drop at s, ltb-false (at + length (runAt s at)) (length s) (not-true (ltb (at + length (runAt s at)) (length s)) h))
+pub preceded-stable : (c n lo hi : ℕ) → Stable (precededBy c (field n lo hi))
+preceded-stable c n lo hi = seq-stable (opt (lit c)) (λ _. field n lo hi) (opt-stable (lit c) (lit-stable c)) (λ _. field-stable n lo hi)
 
--- one zero more, behind a run that reaches the end
-digits-all : (l x : List ℕ) → length (digits l) ≡ length l → digits (l ++ x) ≡ l ++ digits x
-unfolding digits
-digits-all [] x h = refl
-digits-all (b ∷ l) x h = go (isDigit b) h (digits-all l x)
-  where
-    go : (t : Bool) → length (pick t (b ∷ digits l) []) ≡ suc (length l) → (length (digits l) ≡ length l → digits (l ++ x) ≡ l ++ digits x) → pick t (b ∷ digits (l ++ x)) [] ≡ b ∷ (l ++ digits x)
-    go true h ih = ap (λ (d : List ℕ). b ∷ d) (ih (omega arith))
-    go false h ih = absurd (omega arith)
+pub preceded-bounded : (c n lo hi : ℕ) → Bounded (precededBy c (field n lo hi))
+preceded-bounded c n lo hi = seq-bounded (opt (lit c)) (λ _. field n lo hi) (opt-bounded (lit c) (lit-bounded c)) (λ _. field-bounded n lo hi)
 
-zero-more : (s : List ℕ) (at : ℕ) → at ≤ length s → atTheEnd s at ≡ true → runAt (s ++ 48 ∷ []) at ≡ drop at s ++ 48 ∷ []
-unfolding digits
-zero-more s at le h = rw (drop-append-le at s (48 ∷ []) le) (digits-all (drop at s) (48 ∷ []) (omega (arith, run-reaches s at le h, length-drop at s)))
+pub preceded-fails : (c n lo hi : ℕ) → 0 < n → Fails (precededBy c (field n lo hi))
+unfolding seq opt
+preceded-fails c n lo hi h s at e = rw (lit-fails c s at e, field-fails n lo hi h s at e)
 
-of-run : {A : Type 0} (d : List ℕ) (a b : A) → 0 < length d → ofRun d a b ≡ b
-of-run [] a b h = absurd (omega arith)
-of-run (c ∷ d) a b h = refl
+pub preceded-foreign : (X : ℕ → Type 0) (c n lo hi : ℕ) → ((b : ℕ) → X b → eqb b c ≡ false) → ((b : ℕ) → X b → isDigit b ≡ false) → Foreign X (precededBy c (field n lo hi))
+preceded-foreign X c n lo hi k d = seq-foreign X (opt (lit c)) (λ _. field n lo hi) (opt-bounded (lit c) (lit-bounded c)) (opt-foreign X (lit c) (lit-foreign X c k)) (λ _. field-foreign X n lo hi d)
 
-pub fraction-hopeful : Hopeful 1 Anything fraction
-unfolding fraction
-fraction-hopeful s at le h =
-    let e = zero-more s at le h in
-    let size : at + length (drop at s ++ 48 ∷ []) ≡ length (s ++ 48 ∷ []) = omega (arith, length-append (drop at s) (48 ∷ []), length-drop at s, length-append s (48 ∷ [])) in
-    record {
-      first = 48;
-      rest = [];
-      value = nanoseconds (drop at s ++ 48 ∷ []);
-      begins = tt;
-      few = omega arith;
-      fact = tt;
-      reads = rw (e, of-run (drop at s ++ 48 ∷ []) no (got (nanoseconds (drop at s ++ 48 ∷ [])) (at + length (drop at s ++ 48 ∷ []))) (omega (arith, length-append (drop at s) (48 ∷ []))), size);
-    }
+module _ (c n lo hi lo′ hi′ : ℕ) (other : isDigit c ≡ false) (a : lo ≤ lo′) (b : hi′ ≤ hi) (ab : lo′ ≤ hi′) (r : reach lo′ hi′ (suc n) 0 ≡ true) where
+  pub preceded-starts : Starts (suc n) DigitByte (From lo′ hi′) (precededBy c (field (suc n) lo hi))
+  preceded-starts = left-out-starts DigitByte (lit c) (λ _. field (suc n) lo hi) (lit-fails c) (lit-foreign DigitByte c (digit-is-not c other)) (field-starts n lo hi lo′ hi′ a b ab r)
 
-pub fraction-starts : Starts 1 AnyByte Anything fraction
-unfolding fraction
-fraction-starts s = fraction-hopeful s (length s) (omega arith) (rw (run-end s (length s) (omega arith), le-ltb (length s + 0) (length s) (omega arith)))
+  pub preceded-hopeful : Narrows lo hi lo′ hi′ → Hopeful (suc n) (From lo′ hi′) (precededBy c (field (suc n) lo hi))
+  preceded-hopeful k =
+      left-out-hopeful DigitByte (lit c) (λ _. field (suc n) lo hi) (lit-stable c) (lit-bounded c) (lit-at-end c) (lit-fails c)
+      (lit-foreign DigitByte c (digit-is-not c other))
+      (field-starts n lo hi lo′ hi′ a b ab r)
+      (λ _. field-hopeful-in (suc n) lo hi lo′ hi′ a b ab k)
 
-pub run-starts : Starts 1 AnyByte Anything run
-unfolding run numberFrom
-run-starts s =
-    let at-end : atTheEnd s (length s) ≡ true = rw (run-end s (length s) (omega arith), le-ltb (length s + 0) (length s) (omega arith)) in
-    let e : runAt (s ++ 48 ∷ []) (length s) ≡ 48 ∷ [] = zero-more s (length s) (omega arith) at-end ∙ rw (drop-length s) in
-    record { first = 48; rest = []; value = 0; begins = tt; few = omega arith; fact = tt; reads = rw (e, length-append s (48 ∷ [])) }
-
--- a run that stands open at the end has no digit yet, or has a value there
-pub run-open : (s : List ℕ) (at : ℕ) → at ≤ length s → run .more s at ≡ true → (length s ≡ at) ⊎ ((v : ℕ) × (run .reads s at ≡ got v (length s)))
-unfolding run
-run-open s at le h = go (runAt s at) (run-reaches s at le (and-first (atTheEnd s at) (leb (number (runAt s at)) limit) h)) (and-second (atTheEnd s at) h)
-  where
-    go : (d : List ℕ) → at + length d ≡ length s → leb (number d) limit ≡ true → (length s ≡ at) ⊎ ((v : ℕ) × (ofRun d no (pick (leb (number d) limit) (got (number d) (at + length d)) (stop 2)) ≡ got v (length s)))
-    go [] e h = inl (omega arith)
-    go (b ∷ d) e h = inr (number (b ∷ d), rw (h, e))
-
--- a run and its letter
-pub run-then-hopeful : {B : Type 0} {k : ℕ} {F : B → Type 0} (X : ℕ → Type 0) (q : ℕ → Reader B) → ((c : ℕ) → X c → isDigit c ≡ false) → ((v : ℕ) → Starts k X F (q v)) → ((v : ℕ) → Hopeful (1 + k) F (q v)) → Hopeful (1 + k) F (seq run q)
-run-then-hopeful {B} {k} {F} X q nd sq hq = seq-hopeful run q run-stable run-bounded ends hq
-  where
-    keeps : Keeps X run
-    keeps = foreign-keeps X run (run-foreign X nd)
-
-    ends : (s : List ℕ) (at : ℕ) → at ≤ length s → run .more s at ≡ true → Ends (1 + k) AnyByte F (seq run q) s at
-    ends s at le h = go (run-open s at le h)
-      where
-        go : (length s ≡ at) ⊎ ((v : ℕ) × (run .reads s at ≡ got v (length s))) → Ends (1 + k) AnyByte F (seq run q) s at
-        go (inl here) = rw (← here) (ends-then-starts 1 k X F run q (omega arith) keeps (λ v _. sq v) (run-starts s))
-        go (inr (v, e)) = ends-weaken (1 + k) AnyByte F (omega arith) (λ c x. tt) (λ b f. f) (ends-after run q s at le keeps v e (sq v))
+-- a range from 0 on is reached above 0 too: some digit that is still to come can be 1
+pub above-zero : (hi : ℕ) → 1 ≤ hi → Narrows 0 hi 1 hi
+unfolding reach lowest highest
+above-zero hi h n v r = rw (le-leb 1 (highest n (v * 10 + 9)) (omega (arith, highest-grows n (v * 10 + 9)))) (and-second (leb 0 (highest n (v * 10 + 9))) r)

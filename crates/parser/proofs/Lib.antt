@@ -4,5 +4,7 @@ pub mod Stable
 pub mod Places
 pub mod Hopeful
 pub mod Leaves
+pub mod RunLeaves
 pub mod Verdict
 pub mod Alike
+pub mod Says

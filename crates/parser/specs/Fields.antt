@@ -1,7 +1,7 @@
 -- The fields by their names in the paper, and the sign.
 use Prim.Native.Nat.{ℕ}
 use mathlib.Core.Bool.{Bool, true, false}
-use Rattle.parser.specs.Reading.{Reader, lit, alt, map}
+use Rattle.parser.specs.Reading.{Reader, lit, seq, opt, alt, map}
 use Rattle.parser.specs.Digits.{field}
 
 abbrev pub month : Reader ℕ
@@ -26,3 +26,7 @@ signed = alt (map (λ _. true) (lit 45)) (map (λ _. false) (lit 43))
 -- either of two bytes
 abbrev pub either : ℕ → ℕ → Reader Unit
 either c d = alt (lit c) (lit d)
+
+-- a reader with an optional byte c in front
+abbrev pub precededBy : {A : Type 0} → ℕ → Reader A → Reader A
+precededBy c p = seq (opt (lit c)) (λ _. p)

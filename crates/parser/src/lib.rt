@@ -6,7 +6,7 @@ ghost use lib.Dec.{leb, ltb};
 ghost use lib.ListN.{length, drop, replicate};
 ghost use Rattle.parser.specs.Reading.{lit, Says};
 ghost use Rattle.parser.specs.Digits.{field, run, fraction, reach, lowest, highest, runAt, numberFrom};
-ghost use Rattle.parser.specs.Fields.{either, month, day, hour, minute, second, signed};
+ghost use Rattle.parser.specs.Fields.{either, precededBy, month, day, hour, minute, second, signed};
 ghost use Rattle.parser.specs.Read.{cutField, markFound, markMore, numberFound, numberMore, signFound, signMore, foundRun, runFound, runMore};
 
 // What a single byte finds: it, something else, or the end of the input.
@@ -235,6 +235,18 @@ pub fn sign(s: &[u8], at: usize) -> Signed
         Signed::Wrong
     } else {
         Signed::Cut
+    }
+}
+
+// [:]NN, from 00 to `hi`.
+pub fn after_colon(s: &[u8], at: usize, hi: u32) -> Number
+    ensures { λ r. ⌜ Says (precededBy 58 (field 2 0 hi)) (now (s .entry)) at (numberFound r) (numberMore r) ⌝ }
+{
+    let mark = literal(s, at, 58);
+    match mark {
+        Mark::Got { next } => take_digits_in_range(s, next, 2, 0, hi),
+        Mark::Wrong => take_digits_in_range(s, at, 2, 0, hi),
+        Mark::Cut => Number::Cut,
     }
 }
 

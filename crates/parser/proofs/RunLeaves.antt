@@ -1,0 +1,88 @@
+-- The hope of digit runs and the fraction: a zero begins one, and a letter behind a run ends it.
+use Prim.Native.Nat.{ℕ, suc, _+_, _-_, _<_, _≤_}
+use mathlib.Core.List.{List, [], _∷_, _++_}
+use mathlib.Core.Bool.{Bool, true, false, not}
+use mathlib.Core.Path.{_≡_, refl, sym, ap, _∙_}
+use mathlib.Core.Logic.{_⊎_, inl, inr}
+use native.Mathlib.Omega.{arith}
+use lib.ListN.{length, drop, length-append, length-drop}
+use lib.Seq.{drop-append-le, drop-length}
+use lib.Dec.{ltb, leb}
+use borrow.Author.Tests.{ltb-false, le-ltb, not-true}
+use Rattle.parser.specs.Reading.{no, got, stop, Reader, seq, pick, and}
+use Rattle.parser.specs.Digits.{isDigit, digits, number, numberFrom, runAt, ofRun, atTheEnd, limit, run, nanoseconds, fraction}
+use Rattle.parser.proofs.Fields.{and-first, and-second}
+use Rattle.parser.proofs.Runs.{run-end, digits-short}
+use Rattle.parser.proofs.Stable.{run-stable}
+use Rattle.parser.proofs.Places.{run-bounded, run-foreign}
+use Rattle.parser.proofs.Hopeful.{Ends, AnyByte, Anything, Hopeful, Starts, Keeps, foreign-keeps, ends-after, ends-then-starts, seq-hopeful, ends-weaken}
+
+run-reaches : (s : List ℕ) (at : ℕ) → at ≤ length s → atTheEnd s at ≡ true → at + length (runAt s at) ≡ length s
+run-reaches s at le h = omega (arith, digits-short (drop at s), length-drop at s, ltb-false (at + length (runAt s at)) (length s) (not-true (ltb (at + length (runAt s at)) (length s)) h))
+
+-- one zero more, behind a run that reaches the end
+digits-all : (l x : List ℕ) → length (digits l) ≡ length l → digits (l ++ x) ≡ l ++ digits x
+unfolding digits
+digits-all [] x h = refl
+digits-all (b ∷ l) x h = go (isDigit b) h (digits-all l x)
+  where
+    go : (t : Bool) → length (pick t (b ∷ digits l) []) ≡ suc (length l) → (length (digits l) ≡ length l → digits (l ++ x) ≡ l ++ digits x) → pick t (b ∷ digits (l ++ x)) [] ≡ b ∷ (l ++ digits x)
+    go true h ih = ap (λ (d : List ℕ). b ∷ d) (ih (omega arith))
+    go false h ih = absurd (omega arith)
+
+zero-more : (s : List ℕ) (at : ℕ) → at ≤ length s → atTheEnd s at ≡ true → runAt (s ++ 48 ∷ []) at ≡ drop at s ++ 48 ∷ []
+unfolding digits
+zero-more s at le h = rw (drop-append-le at s (48 ∷ []) le) (digits-all (drop at s) (48 ∷ []) (omega (arith, run-reaches s at le h, length-drop at s)))
+
+of-run : {A : Type 0} (d : List ℕ) (a b : A) → 0 < length d → ofRun d a b ≡ b
+of-run [] a b h = absurd (omega arith)
+of-run (c ∷ d) a b h = refl
+
+pub fraction-hopeful : Hopeful 1 Anything fraction
+unfolding fraction
+fraction-hopeful s at le h =
+    let e = zero-more s at le h in
+    let size : at + length (drop at s ++ 48 ∷ []) ≡ length (s ++ 48 ∷ []) = omega (arith, length-append (drop at s) (48 ∷ []), length-drop at s, length-append s (48 ∷ [])) in
+    record {
+      first = 48;
+      rest = [];
+      value = nanoseconds (drop at s ++ 48 ∷ []);
+      begins = tt;
+      few = omega arith;
+      fact = tt;
+      reads = rw (e, of-run (drop at s ++ 48 ∷ []) no (got (nanoseconds (drop at s ++ 48 ∷ [])) (at + length (drop at s ++ 48 ∷ []))) (omega (arith, length-append (drop at s) (48 ∷ []))), size);
+    }
+
+pub fraction-starts : Starts 1 AnyByte Anything fraction
+unfolding fraction
+fraction-starts s = fraction-hopeful s (length s) (omega arith) (rw (run-end s (length s) (omega arith), le-ltb (length s + 0) (length s) (omega arith)))
+
+pub run-starts : Starts 1 AnyByte Anything run
+unfolding run numberFrom
+run-starts s =
+    let at-end : atTheEnd s (length s) ≡ true = rw (run-end s (length s) (omega arith), le-ltb (length s + 0) (length s) (omega arith)) in
+    let e : runAt (s ++ 48 ∷ []) (length s) ≡ 48 ∷ [] = zero-more s (length s) (omega arith) at-end ∙ rw (drop-length s) in
+    record { first = 48; rest = []; value = 0; begins = tt; few = omega arith; fact = tt; reads = rw (e, length-append s (48 ∷ [])) }
+
+-- a run that stands open at the end has no digit yet, or has a value there
+pub run-open : (s : List ℕ) (at : ℕ) → at ≤ length s → run .more s at ≡ true → (length s ≡ at) ⊎ ((v : ℕ) × (run .reads s at ≡ got v (length s)))
+unfolding run
+run-open s at le h = go (runAt s at) (run-reaches s at le (and-first (atTheEnd s at) (leb (number (runAt s at)) limit) h)) (and-second (atTheEnd s at) h)
+  where
+    go : (d : List ℕ) → at + length d ≡ length s → leb (number d) limit ≡ true → (length s ≡ at) ⊎ ((v : ℕ) × (ofRun d no (pick (leb (number d) limit) (got (number d) (at + length d)) (stop 2)) ≡ got v (length s)))
+    go [] e h = inl (omega arith)
+    go (b ∷ d) e h = inr (number (b ∷ d), rw (h, e))
+
+-- a run and its letter
+pub run-then-hopeful : {B : Type 0} {k : ℕ} {F : B → Type 0} (X : ℕ → Type 0) (q : ℕ → Reader B) → ((c : ℕ) → X c → isDigit c ≡ false) → ((v : ℕ) → Starts k X F (q v)) → ((v : ℕ) → Hopeful (1 + k) F (q v)) → Hopeful (1 + k) F (seq run q)
+run-then-hopeful {B} {k} {F} X q nd sq hq = seq-hopeful run q run-stable run-bounded ends hq
+  where
+    keeps : Keeps X run
+    keeps = foreign-keeps X run (run-foreign X nd)
+
+    ends : (s : List ℕ) (at : ℕ) → at ≤ length s → run .more s at ≡ true → Ends (1 + k) AnyByte F (seq run q) s at
+    ends s at le h = go (run-open s at le h)
+      where
+        go : (length s ≡ at) ⊎ ((v : ℕ) × (run .reads s at ≡ got v (length s))) → Ends (1 + k) AnyByte F (seq run q) s at
+        go (inl here) = rw (← here) (ends-then-starts 1 k X F run q (omega arith) keeps (λ v _. sq v) (run-starts s))
+        go (inr (v, e)) = ends-weaken (1 + k) AnyByte F (omega arith) (λ c x. tt) (λ b f. f) (ends-after run q s at le keeps v e (sq v))

@@ -1,0 +1,53 @@
+-- What code says of a whole, from what it says of its parts: one law for each combinator and outcome. A function's proof puts
+-- its callees' promises together by these.
+use Prim.Native.Nat.{ℕ, _≤_}
+use mathlib.Core.List.{List}
+use mathlib.Core.Bool.{Bool, true, false}
+use mathlib.Core.Option.{Option, some, none}
+use mathlib.Core.Path.{_≡_, refl, sym, ap, _∙_}
+use lib.ListN.{length}
+use Rattle.parser.specs.Reading.{Found, no, got, stop, Reader, seq, opt, lack, alt, verify, keep, map, mapFound, give, or, and, Says}
+use Rattle.parser.proofs.Places.{Fails}
+use Rattle.parser.proofs.Hopeful.{AtEnd}
+
+or-false : (m : Bool) → or m false ≡ m
+or-false true = refl
+or-false false = refl
+
+module _ {A : Type 0} (p : Reader A) (s : List ℕ) (at : ℕ) where
+  pub says-map : {B : Type 0} (g : A → B) (f : Found A) (m : Bool) → Says p s at f m → Says (map g p) s at (mapFound g f) m
+  unfolding map
+  says-map g f m h = record { found = ap (mapFound g) (h .found); more = h .more }
+
+  pub says-verify : (t : A → Bool) (f : Found A) (m : Bool) → Says p s at f m → Says (verify t p) s at (keep t f) m
+  unfolding verify
+  says-verify t f m h = record { found = ap (keep t) (h .found); more = h .more }
+
+  pub says-opt : (f : Found A) (m : Bool) → Says p s at f m → Says (opt p) s at (lack at f) m
+  unfolding opt
+  says-opt f m h = record { found = ap (lack at) (h .found); more = h .more }
+
+  pub says-seq-got : {B : Type 0} (q : A → Reader B) (a : A) (n : ℕ) (m : Bool) (f : Found B) (l : Bool) → Says p s at (got a n) m → Says (q a) s n f l → Says (seq p q) s at f (or m l)
+  unfolding seq
+  says-seq-got q a n m f l h k = record { found = rw (← h .found) (k .found); more = rw (← h .found, ← h .more, ← k .more) }
+
+  pub says-seq-no : {B : Type 0} (q : A → Reader B) (m : Bool) → Says p s at no m → Says (seq p q) s at no m
+  unfolding seq
+  says-seq-no q m h = record { found = rw (← h .found); more = rw (← h .found, ← h .more, or-false m) }
+
+  pub says-seq-stop : {B : Type 0} (q : A → Reader B) (r : ℕ) (m : Bool) → Says p s at (stop r) m → Says (seq p q) s at (stop r) m
+  unfolding seq
+  says-seq-stop q r m h = record { found = rw (← h .found); more = rw (← h .found, ← h .more, or-false m) }
+
+  pub says-alt-no : (q : Reader A) (m : Bool) (f : Found A) (l : Bool) → Says p s at no m → Says q s at f l → Says (alt p q) s at f (or m l)
+  unfolding alt
+  says-alt-no q m f l h k = record { found = rw (← h .found) (k .found); more = rw (← h .found, ← h .more, ← k .more) }
+
+  pub says-alt-got : (q : Reader A) (a : A) (n : ℕ) (m : Bool) → Says p s at (got a n) m → Says (alt p q) s at (got a n) m
+  unfolding alt
+  says-alt-got q a n m h = record { found = rw (← h .found); more = rw (← h .found, ← h .more, or-false m) }
+
+-- an optional item that the end of the input cuts short, before what fails there
+pub says-cut : {A B : Type 0} (p : Reader A) (q : Option A → Reader B) (s : List ℕ) (at : ℕ) → AtEnd p → Fails (q none) → Says p s at no true → Says (seq (opt p) q) s at no true
+unfolding seq opt
+says-cut p q s at ep fq h = record { found = rw (← h .found, fq s at (ep s at (sym (h .more)))); more = rw (← h .more) }
