@@ -57,6 +57,12 @@ foreign-keeps X p fp s at a e le c y x = fp s c y at x le ∙ e
 pub ends-weaken : {A : Type 0} {j : ℕ} (k : ℕ) {X : ℕ → Type 0} (Y : ℕ → Type 0) {E : A → Type 0} (F : A → Type 0) {p : Reader A} {s : List ℕ} {at : ℕ} → j ≤ k → ((c : ℕ) → X c → Y c) → ((a : A) → E a → F a) → Ends j X E p s at → Ends k Y F p s at
 ends-weaken k Y F h f g e = record { first = e .first; rest = e .rest; value = e .value; begins = f (e .first) (e .begins); few = omega (arith, e .few); fact = g (e .value) (e .fact); reads = e .reads }
 
+pub hopeful-weaken : {A : Type 0} {j : ℕ} (k : ℕ) {E : A → Type 0} (F : A → Type 0) (p : Reader A) → j ≤ k → ((a : A) → E a → F a) → Hopeful j E p → Hopeful k F p
+hopeful-weaken k F p h g hp s at le m = ends-weaken k AnyByte F h (λ c x. x) g (hp s at le m)
+
+pub starts-weaken : {A : Type 0} {k : ℕ} {X : ℕ → Type 0} {F : A → Type 0} (p : Reader A) → Starts k X F p → Starts k AnyByte F p
+starts-weaken {A} {k} {X} {F} p st s = ends-weaken k AnyByte F (omega arith) (λ c x. tt) (λ a f. f) (st s)
+
 -- open at the end of the input alone
 abbrev pub AtEnd : {A : Type 0} → Reader A → Type 0
 AtEnd p = (s : List ℕ) (at : ℕ) → p .more s at ≡ true → length s ≤ at
@@ -103,7 +109,7 @@ opt-seq-definite {A} p q ep fp dq fq s at b n e = go (p .more s at) refl
 pub starts-hopeful : {A : Type 0} {k : ℕ} {X : ℕ → Type 0} {F : A → Type 0} (p : Reader A) → AtEnd p → Starts k X F p → Hopeful k F p
 starts-hopeful {A} {k} {X} {F} p ep st s at le h =
     let here : length s ≡ at = omega (arith, ep s at h) in
-    rw (← here) (ends-weaken k AnyByte F (omega arith) (λ c x. tt) (λ a f. f) (st s))
+    rw (← here) (starts-weaken p st s)
 
 pub hopeful-starts : {A : Type 0} {k : ℕ} {F : A → Type 0} (p : Reader A) → ((s : List ℕ) → p .more s (length s) ≡ true) → Hopeful k F p → Starts k AnyByte F p
 hopeful-starts p mp hp s = hp s (length s) (omega arith) (mp s)

@@ -10,14 +10,14 @@ use lib.ListN.{length, getD, drop, length-append, length-drop, List·getD-append
 use lib.Seq.{getD-append-seam, drop-append-le, drop-length}
 use lib.Dec.{ltb, leb, eqb}
 use borrow.Author.Tests.{ltb-true, ltb-false, leb-true, leb-false, lt-ltb, le-ltb, le-leb, eq-eqb, ne-eqb, not-true}
-use Rattle.parser.specs.Reading.{Found, no, got, stop, Reader, lit, seq, opt, alt, orElse, failed, map, mapFound, pick, or, and}
+use Rattle.parser.specs.Reading.{Found, no, got, stop, Reader, lit, seq, then, opt, lack, alt, orElse, failed, map, mapFound, pick, or, and}
 use Rattle.parser.specs.Digits.{isDigit, digitsFrom, digitsMore, lowest, highest, reach, field, digits, number, numberFrom, runAt, ofRun, atTheEnd, limit, run, nanoseconds, fraction}
-use Rattle.parser.specs.Fields.{precededBy}
+use Rattle.parser.specs.Fields.{signed, precededBy}
 use Rattle.parser.proofs.Fields.{true≢false, and-first, and-second, DigitAt, digit-at, digitsFrom-suc, digitsMore-suc, digitsFrom-other, digitsMore-other, digitsFrom-end, digitsMore-end, lowest-grows, highest-grows}
 use Rattle.parser.proofs.Runs.{run-end, digits-short}
-use Rattle.parser.proofs.Stable.{Stable, digit-stays, lit-stable, opt-stable, seq-stable, field-stable, run-stable}
-use Rattle.parser.proofs.Places.{no≢got, got-place, Bounded, Fails, Foreign, lit-fails, lit-bounded, lit-foreign, opt-bounded, opt-foreign, seq-bounded, seq-foreign, field-fails, field-bounded, field-foreign, run-bounded, run-foreign}
-use Rattle.parser.proofs.Hopeful.{Ends, AnyByte, Anything, Hopeful, Starts, Keeps, Definite, AtEnd, at-end-definite, starts-hopeful, foreign-keeps, ends-after, ends-then-starts, seq-hopeful, ends-weaken, left-out-starts, left-out-hopeful}
+use Rattle.parser.proofs.Stable.{Stable, digit-stays, lit-stable, opt-stable, alt-stable, map-stable, seq-stable, field-stable, run-stable}
+use Rattle.parser.proofs.Places.{no≢got, stop≢got, Bounded, Fails, Foreign, lit-fails, lit-bounded, lit-foreign, alt-fails, alt-bounded, alt-foreign, map-fails, map-bounded, map-foreign, opt-bounded, opt-foreign, seq-bounded, seq-foreign, field-fails, field-bounded, field-foreign, run-bounded, run-foreign}
+use Rattle.parser.proofs.Hopeful.{Ends, AnyByte, Anything, Hopeful, Starts, Keeps, Definite, AtEnd, at-end-definite, starts-hopeful, foreign-keeps, ends-after, ends-alt, ends-map, ends-then-starts, seq-hopeful, ends-weaken, left-out-starts, left-out-hopeful}
 
 -- ---- single bytes
 
@@ -60,6 +60,31 @@ alt-at-end p q ep eq s at h = go (p .more s at) (failed (p .reads s at)) refl h
     go true f em h = ep s at em
     go false true em h = eq s at h
     go false false em h = absurd (true≢false (sym h))
+
+-- either sign
+abbrev minus : Reader Bool
+minus = map (λ _. true) (lit 45)
+
+abbrev plus : Reader Bool
+plus = map (λ _. false) (lit 43)
+
+pub signed-stable : Stable signed
+signed-stable = alt-stable minus plus (map-stable (λ _. true) (lit 45) (lit-stable 45)) (map-stable (λ _. false) (lit 43) (lit-stable 43))
+
+pub signed-bounded : Bounded signed
+signed-bounded = alt-bounded minus plus (map-bounded (λ _. true) (lit 45) (lit-bounded 45)) (map-bounded (λ _. false) (lit 43) (lit-bounded 43))
+
+pub signed-fails : Fails signed
+signed-fails = alt-fails minus plus (map-fails (λ _. true) (lit 45) (lit-fails 45)) (map-fails (λ _. false) (lit 43) (lit-fails 43))
+
+pub signed-at-end : AtEnd signed
+signed-at-end = alt-at-end minus plus (map-at-end (λ _. true) (lit 45) (lit-at-end 45)) (map-at-end (λ _. false) (lit 43) (lit-at-end 43))
+
+pub signed-foreign : (X : ℕ → Type 0) → ((c : ℕ) → X c → eqb c 45 ≡ false) → ((c : ℕ) → X c → eqb c 43 ≡ false) → Foreign X signed
+signed-foreign X k l = alt-foreign X minus plus (map-foreign X (λ _. true) (lit 45) (lit-foreign X 45 k)) (map-foreign X (λ _. false) (lit 43) (lit-foreign X 43 l))
+
+pub signed-starts : Starts 1 (Byte 45) Anything signed
+signed-starts s = ends-alt minus plus (ends-map Anything (λ _. true) (lit 45) (λ a f. tt) (lit-starts Anything 45 tt s))
 
 -- ---- fields: some digits reach every number between the least and the greatest
 
@@ -249,6 +274,15 @@ preceded-fails c n lo hi h s at e = rw (lit-fails c s at e, field-fails n lo hi 
 
 pub preceded-foreign : (X : ℕ → Type 0) (c n lo hi : ℕ) → ((b : ℕ) → X b → eqb b c ≡ false) → ((b : ℕ) → X b → isDigit b ≡ false) → Foreign X (precededBy c (field n lo hi))
 preceded-foreign X c n lo hi k d = seq-foreign X (opt (lit c)) (λ _. field n lo hi) (opt-bounded (lit c) (lit-bounded c)) (opt-foreign X (lit c) (lit-foreign X c k)) (λ _. field-foreign X n lo hi d)
+
+pub preceded-within : (c n lo hi : ℕ) (s : List ℕ) (at a m : ℕ) → precededBy c (field n lo hi) .reads s at ≡ got a m → From lo hi a
+unfolding seq opt
+preceded-within c n lo hi s at a m e = go (lit c .reads s at) e
+  where
+    go : (f : Found Unit) → then (lack at f) (λ _ k. field n lo hi .reads s k) ≡ got a m → From lo hi a
+    go no e = field-within n lo hi s at a m e
+    go (stop r) e = absurd (stop≢got e)
+    go (got u k) e = field-within n lo hi s k a m e
 
 module _ (c n lo hi lo′ hi′ : ℕ) (other : isDigit c ≡ false) (a : lo ≤ lo′) (b : hi′ ≤ hi) (ab : lo′ ≤ hi′) (r : reach lo′ hi′ (suc n) 0 ≡ true) where
   pub preceded-starts : Starts (suc n) DigitByte (From lo′ hi′) (precededBy c (field (suc n) lo hi))

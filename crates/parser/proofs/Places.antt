@@ -194,6 +194,10 @@ pub map-skips : {A B : Type 0} (E : A → Type 0) (F : B → Type 0) (f : A → 
 unfolding map
 map-skips E F f p k hp s at h = let e = hp s at h in (f (e .0), (k (e .0) (e .1 .0), rw (e .1 .1)))
 
+pub verify-skips : {A : Type 0} (F : A → Type 0) (f : A → Bool) (p : Reader A) → ((a : A) → F a → f a ≡ true) → Skips F p → Skips F (verify f p)
+unfolding verify
+verify-skips F f p k hp s at h = let e = hp s at h in (e .0, (e .1 .0, rw (e .1 .1, k (e .0) (e .1 .0))))
+
 -- ---- a byte that a reader never takes reads as the end of the input does
 
 abbrev pub Foreign : {A : Type 0} → (ℕ → Type 0) → Reader A → Type 0

@@ -48,3 +48,19 @@ one-verdict k p s Open Open a b = refl
 
 pub begins-once : {A : Type 0} (k : ℕ) (p : Reader A) (s : List ℕ) (t u : Told A) (v w : Verdict) → Begins k p s t v → Begins k p s u w → (t ≡ u) × (v ≡ w)
 begins-once k p s t u v w a b = (a .answer ∙ sym (b .answer), one-verdict k p s v w (a .verdict) (b .verdict))
+
+-- what is told has its number, record and count
+pub recorded-once : {A : Type 0} {a b : A} {m n : ℕ} → recorded a m ≡ recorded b n → (a ≡ b) × (m ≡ n)
+recorded-once {A} e = (some-once (ap (λ (t : Told A). t .value) e), ap (λ (t : Told A). t .count) e)
+  where
+    some-once : {a b : A} → some a ≡ some b → a ≡ b
+    some-once e = cc
+
+pub refused-once : {A : Type 0} (q r m n : ℕ) → refused {A = A} q m ≡ refused r n → (q ≡ r) × (m ≡ n)
+refused-once {A} q r m n e = (ap (λ (t : Told A). t .number) e, ap (λ (t : Told A). t .count) e)
+
+pub recorded-or-refused : {A : Type 0} {a : A} {m n r : ℕ} → recorded a m ≡ refused r n → ⊥
+recorded-or-refused {A} e = never (ap (λ (t : Told A). t .value) e)
+  where
+    never : {a : A} → some a ≡ none → ⊥
+    never e = let z : _≡_ {A = ℕ} 0 1 = cc in omega arith

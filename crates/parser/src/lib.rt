@@ -7,7 +7,9 @@ ghost use lib.ListN.{length, drop, replicate};
 ghost use Rattle.parser.specs.Reading.{lit, Says};
 ghost use Rattle.parser.specs.Digits.{field, run, fraction, reach, lowest, highest, runAt, numberFrom};
 ghost use Rattle.parser.specs.Fields.{either, precededBy, month, day, hour, minute, second, signed};
+ghost use Rattle.parser.specs.Answer.{verdictOf};
 ghost use Rattle.parser.specs.Read.{cutField, markFound, markMore, numberFound, numberMore, signFound, signMore, foundRun, runFound, runMore};
+use types::Verdict;
 
 // What a single byte finds: it, something else, or the end of the input.
 pub enum Mark {
@@ -355,5 +357,16 @@ pub fn leftover(s: &[u8], count: usize) -> &[u8]
     } else {
         let all = s.len();
         &s[all..]
+    }
+}
+
+// The verdict on a reading: whether a byte more could still matter.
+pub fn verdict_on(more: bool) -> Verdict
+    ensures { λ r. ⌜ r ≡ verdictOf more ⌝ }
+{
+    if more {
+        Verdict::Open
+    } else {
+        Verdict::Settled
     }
 }

@@ -1,4 +1,4 @@
--- What holds of every offset that the constructor makes.
+-- What holds of every offset that the constructor makes, and of the small sums.
 use Prim.Native.Nat.{ℕ, zero, suc, _+_, _*_, _≤_, _<_}
 use mathlib.Core.Bool.{Bool, true, false}
 use mathlib.Core.Path.{_≡_, refl, sym, _∙_}
@@ -10,6 +10,9 @@ use Rattle.types.specs.declared.Offset.{Offset}
 use Rattle.types.specs.declared.Duration.{Duration}
 use Rattle.types.specs.declared.MadeOffset.{MadeOffset}
 use Rattle.types.specs.declared.MadeOffset.the-variants.{Made, Outside}
+use Rattle.types.specs.declared.Refusal.{Refusal}
+use Rattle.types.specs.declared.Refusal.the-variants.{NoForm, TooBig, LeftOver}
+use Rattle.types.specs.Numbers.{numberOf}
 use Rattle.types.specs.Sums.{and, withSign, signedOffset, made, pickMade, minutesInAll, betweenTheEnds, inRange, sameSign, secondsOf}
 
 neg-times : (n : ℕ) → negℤ (pos n) *ℤ pos 60 ≡ negℤ (pos (n * 60))
@@ -61,3 +64,15 @@ made-is-proper minus h m o e = go (leb h 23) (leb m 59) refl refl e
 -- `P1Y2M3DT4H5M6S`
 pub seconds-example : secondsOf (record { years = 1; months = 2; weeks = 0; days = 3; hours = 4; minutes = 5; seconds = 6 }) ≡ 36993906
 seconds-example = refl
+
+-- a refusal is known by its number
+pub number-once : (r q : Refusal) → numberOf r ≡ numberOf q → r ≡ q
+number-once NoForm NoForm e = refl
+number-once NoForm TooBig e = absurd (omega arith)
+number-once NoForm LeftOver e = absurd (omega arith)
+number-once TooBig NoForm e = absurd (omega arith)
+number-once TooBig TooBig e = refl
+number-once TooBig LeftOver e = absurd (omega arith)
+number-once LeftOver NoForm e = absurd (omega arith)
+number-once LeftOver TooBig e = absurd (omega arith)
+number-once LeftOver LeftOver e = refl
