@@ -259,7 +259,7 @@ unfolding field
 field-within n lo hi s at a m e = digits-within lo hi n 0 s at a m e
 
 -- an optional byte in front of a field, left out where the input ends
-digit-is-not : (c : ℕ) → isDigit c ≡ false → (b : ℕ) → DigitByte b → eqb b c ≡ false
+pub digit-is-not : (c : ℕ) → isDigit c ≡ false → (b : ℕ) → DigitByte b → eqb b c ≡ false
 digit-is-not c h b d = ne-eqb b c (λ e. true≢false (sym d ∙ rw e h))
 
 pub preceded-stable : (c n lo hi : ℕ) → Stable (precededBy c (field n lo hi))

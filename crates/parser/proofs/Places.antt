@@ -134,6 +134,15 @@ fraction-bounded s at le a n e = go (runAt s at) (run-short s at le) e
     go [] h e = absurd (no≢got e)
     go (b ∷ d) h e = omega (arith, got-place e)
 
+-- no fraction is too big
+pub fraction-never-stops : (s : List ℕ) (at r : ℕ) → fraction .reads s at ≡ stop r → ⊥
+unfolding fraction
+fraction-never-stops s at r e = go (runAt s at) e
+  where
+    go : (d : List ℕ) → ofRun d no (got (nanoseconds d) (at + length d)) ≡ stop r → ⊥
+    go [] e = let z : _≡_ {A = ℕ} 0 1 = cc in omega arith
+    go (b ∷ d) e = stop≢got (sym e)
+
 -- ---- past the end every reader fails alike, and an optional item takes nothing
 
 abbrev pub Fails : {A : Type 0} → Reader A → Type 0

@@ -6,13 +6,17 @@ use mathlib.Core.Bool.{Bool, true, false}
 use mathlib.Core.Option.{Option, some, none}
 use mathlib.Core.Path.{_≡_, refl, sym, ap, _∙_}
 use lib.ListN.{length}
-use Rattle.parser.specs.Reading.{Found, no, got, stop, Reader, seq, opt, lack, alt, verify, keep, map, mapFound, give, or, and, Says}
+use Rattle.parser.specs.Reading.{Found, no, got, stop, Reader, seq, opt, lack, alt, verify, keep, map, mapFound, give, or, and, Says, SaysOn}
 use Rattle.parser.proofs.Places.{Fails}
 use Rattle.parser.proofs.Hopeful.{AtEnd}
 
-or-false : (m : Bool) → or m false ≡ m
+pub or-false : (m : Bool) → or m false ≡ m
 or-false true = refl
 or-false false = refl
+
+pub or-true : (m : Bool) → or m true ≡ true
+or-true true = refl
+or-true false = refl
 
 module _ {A : Type 0} (p : Reader A) (s : List ℕ) (at : ℕ) where
   pub says-map : {B : Type 0} (g : A → B) (f : Found A) (m : Bool) → Says p s at f m → Says (map g p) s at (mapFound g f) m
@@ -51,3 +55,37 @@ module _ {A : Type 0} (p : Reader A) (s : List ℕ) (at : ℕ) where
 pub says-cut : {A B : Type 0} (p : Reader A) (q : Option A → Reader B) (s : List ℕ) (at : ℕ) → AtEnd p → Fails (q none) → Says p s at no true → Says (seq (opt p) q) s at no true
 unfolding seq opt
 says-cut p q s at ep fq h = record { found = rw (← h .found, fq s at (ep s at (sym (h .more)))); more = rw (← h .more) }
+
+-- ---- reading on from what was left open
+
+pub says-on : {A : Type 0} (p : Reader A) (s : List ℕ) (at : ℕ) (f : Found A) (b m : Bool) → Says p s at f m → SaysOn b p s at f (or b m)
+says-on p s at f b m h = record { found = h .found; more = rw (h .more) }
+
+pub on-says : {A : Type 0} (p : Reader A) (s : List ℕ) (at : ℕ) (f : Found A) (m : Bool) → SaysOn false p s at f m → Says p s at f m
+on-says p s at f m h = record { found = h .found; more = h .more }
+
+or-assoc : (a b c : Bool) → or (or a b) c ≡ or a (or b c)
+or-assoc true b c = refl
+or-assoc false b c = refl
+
+module _ {A B : Type 0} (b : Bool) (p : Reader A) (q : A → Reader B) (s : List ℕ) (at : ℕ) where
+  pub on-seq-got : (a : A) (n : ℕ) (m : Bool) (f : Found B) (l : Bool) → SaysOn b p s at (got a n) m → SaysOn m (q a) s n f l → SaysOn b (seq p q) s at f l
+  unfolding seq
+  on-seq-got a n m f l h k = record { found = rw (← h .found) (k .found); more = k .more ∙ rw (h .more, ← h .found) (or-assoc b (p .more s at) (q a .more s n)) }
+
+  pub on-seq-no : (m : Bool) → SaysOn b p s at no m → SaysOn b (seq p q) s at no m
+  unfolding seq
+  on-seq-no m h = record { found = rw (← h .found); more = rw (← h .found, or-false (p .more s at)) (h .more) }
+
+module _ {A : Type 0} (b : Bool) (p : Reader A) (s : List ℕ) (at : ℕ) where
+  pub on-map : {B : Type 0} (g : A → B) (f : Found A) (m : Bool) → SaysOn b p s at f m → SaysOn b (map g p) s at (mapFound g f) m
+  unfolding map
+  on-map g f m h = record { found = ap (mapFound g) (h .found); more = h .more }
+
+  pub on-opt : (f : Found A) (m : Bool) → SaysOn b p s at f m → SaysOn b (opt p) s at (lack at f) m
+  unfolding opt
+  on-opt f m h = record { found = ap (lack at) (h .found); more = h .more }
+
+pub says-seq-on : {A B : Type 0} (p : Reader A) (q : A → Reader B) (s : List ℕ) (at : ℕ) (a : A) (n : ℕ) (m : Bool) (f : Found B) (l : Bool) → Says p s at (got a n) m → SaysOn m (q a) s n f l → Says (seq p q) s at f l
+unfolding seq
+says-seq-on p q s at a n m f l h k = record { found = rw (← h .found) (k .found); more = k .more ∙ rw (h .more, ← h .found) }

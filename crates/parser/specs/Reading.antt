@@ -109,3 +109,8 @@ give a = record { reads = λ s at. got a at; more = λ s at. false }
 pub record Says {A : Type 0} (p : Reader A) (s : List ℕ) (at : ℕ) (f : Found A) (m : Bool) : Type 0 where
   pub found : f ≡ p .reads s at
   pub more : m ≡ p .more s at
+
+-- the same, read on from where something before it was left open, or not
+pub record SaysOn {A : Type 0} (before : Bool) (p : Reader A) (s : List ℕ) (at : ℕ) (f : Found A) (m : Bool) : Type 0 where
+  pub found : f ≡ p .reads s at
+  pub more : m ≡ or before (p .more s at)

@@ -4,7 +4,7 @@ ghost use mathlib.Core.Path.{_≡_};
 ghost use Prim.Native.Nat.{_+_, _-_, _^_, _<_};
 ghost use lib.Dec.{leb, ltb};
 ghost use lib.ListN.{length, drop, replicate};
-ghost use Rattle.parser.specs.Reading.{lit, Says};
+ghost use Rattle.parser.specs.Reading.{lit, or, Says};
 ghost use Rattle.parser.specs.Digits.{field, run, fraction, reach, lowest, highest, runAt, numberFrom};
 ghost use Rattle.parser.specs.Fields.{either, precededBy, month, day, hour, minute, second, signed};
 ghost use Rattle.parser.specs.Answer.{verdictOf};
@@ -369,4 +369,11 @@ pub fn verdict_on(more: bool) -> Verdict
     } else {
         Verdict::Settled
     }
+}
+
+// Whether either of two readings was left open.
+pub fn either_open(first: bool, second: bool) -> bool
+    ensures { λ r. ⌜ r ≡ or first second ⌝ }
+{
+    if first { true } else { second }
 }

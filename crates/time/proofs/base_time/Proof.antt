@@ -1,0 +1,54 @@
+-- The hour, then what follows it.
+use mathlib.Core.Bool.{true, false}
+use Rattle.parser.specs.Fields.{hour}
+use Rattle.parser.proofs.Says.{says-seq-got, says-seq-no}
+use Rattle.time.specs.Rules.{baseTime, afterHour}
+use borrow.Author.Needs.{needs}
+use Rattle.time.proofs.base_time.Statement.{statement}
+use Rattle.time.proofs.base_time.Tie as tie
+
+time-hour-requires : tie.Need-time-hour-requires
+time-hour-requires c κs = search needs
+
+enum-known-hour : tie.Need-enum-known-hour
+enum-known-hour c = search needs
+
+time-after-hour-requires : tie.Need-time-after-hour-requires
+time-after-hour-requires c κs = search needs
+
+enum-told : tie.Need-enum-told
+enum-told c = search needs
+
+enum-told-2 : tie.Need-enum-told-2
+enum-told-2 c = search needs
+
+returns : tie.Need-returns
+unfolding baseTime
+returns c =
+    let a = c .before .before .before .before .before .before .args in
+    says-seq-got hour (a .s .now) (a .at) afterHour _ _ false _ _ (rw (c .before .before .hour .given .1) at (c .before .before .before .before .time-hour .ensures)) (c .time-after-hour .ensures)
+
+returns-2 : tie.Need-returns-2
+unfolding baseTime
+returns-2 c =
+    let a = c .before .before .before .before .args in
+    says-seq-no hour (a .s .now) (a .at) afterHour false (rw (c .enum-told .given .1) at (c .before .before .time-hour .ensures))
+
+returns-3 : tie.Need-returns-3
+unfolding baseTime
+returns-3 c =
+    let a = c .before .before .before .before .args in
+    says-seq-no hour (a .s .now) (a .at) afterHour true (rw (c .enum-told2 .given .1) at (c .before .before .time-hour .ensures))
+
+pub base-time-spec : {M : Type 1} → statement M
+base-time-spec =
+    tie.close
+    (tie.spec
+    time-hour-requires
+    enum-known-hour
+    time-after-hour-requires
+    enum-told
+    enum-told-2
+    returns
+    returns-2
+    returns-3)

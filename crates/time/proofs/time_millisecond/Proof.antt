@@ -1,0 +1,132 @@
+-- The fraction is there or left out, and stays open where its digits do, or where it was cut short.
+use Prim.Native.Nat.{ℕ}
+use mathlib.Core.List.{List}
+use mathlib.Core.Bool.{Bool, true, false}
+use mathlib.Core.Option.{Option, some, none}
+use mathlib.Core.Path.{_≡_, refl, sym, _∙_}
+use Rattle.parser.specs.Reading.{Reader, Says, SaysOn, no, got, seq, opt, or}
+use Rattle.parser.specs.Digits.{fraction}
+use Rattle.parser.specs.Fields.{either}
+use Rattle.parser.proofs.Places.{fraction-never-stops}
+use Rattle.parser.proofs.Says.{or-false, or-true, says-opt, says-seq-got, says-seq-no, says-on, on-map}
+use Rattle.time.specs.Rules.{Clock, clockOf, millisecond}
+use borrow.Author.Needs.{needs}
+use Rattle.time.proofs.time_millisecond.Statement.{statement}
+use Rattle.time.proofs.time_millisecond.Tie as tie
+
+abbrev tail : Reader ℕ
+tail = seq (either 44 46) (λ _. fraction)
+
+module _ (mi se : ℕ) (s : List ℕ) (at : ℕ) (b m : Bool) where
+  made : (o : Option ℕ) (n : ℕ) (l : Bool) → Says (opt tail) s at (got o n) l → m ≡ or b l → SaysOn b (millisecond mi se) s at (got (clockOf mi se o) n) m
+  unfolding millisecond
+  made o n l h e = rw e (on-map b (opt tail) s at (clockOf mi se) (got o n) (or b l) (says-on (opt tail) s at (got o n) b l h))
+
+  there : (v n : ℕ) (l : Bool) → Says tail s at (got v n) l → m ≡ or b l → SaysOn b (millisecond mi se) s at (got (clockOf mi se (some v)) n) m
+  there v n l h e = made (some v) n l (says-opt tail s at (got v n) l h) e
+
+  left-out : (l : Bool) → Says tail s at no l → m ≡ or b l → SaysOn b (millisecond mi se) s at (got (clockOf mi se none) at) m
+  left-out l h e = made none at l (says-opt tail s at no l h) e
+
+one-of-requires : tie.Need-one-of-requires
+one-of-requires c κs = search needs
+
+enum-known-mark : tie.Need-enum-known-mark
+enum-known-mark c = search needs
+
+fraction-nanosecond-requires : tie.Need-fraction-nanosecond-requires
+fraction-nanosecond-requires c κs = search needs
+
+enum-known-fraction : tie.Need-enum-known-fraction
+enum-known-fraction c = search needs
+
+either-open-requires : tie.Need-either-open-requires
+either-open-requires c κs = search needs
+
+enum-told : tie.Need-enum-told
+enum-told c = search needs
+
+enum-told-2 : tie.Need-enum-told-2
+enum-told-2 c = search needs
+
+no-fraction-requires : tie.Need-no-fraction-requires
+no-fraction-requires c κs = search needs
+
+enum-told-3 : tie.Need-enum-told-3
+enum-told-3 c = search needs
+
+no-fraction-requires-2 : tie.Need-no-fraction-requires-2
+no-fraction-requires-2 c κs = search needs
+
+enum-told-4 : tie.Need-enum-told-4
+enum-told-4 c = search needs
+
+no-fraction-requires-3 : tie.Need-no-fraction-requires-3
+no-fraction-requires-3 c κs = search needs
+
+enum-told-5 : tie.Need-enum-told-5
+enum-told-5 c = search needs
+
+no-fraction-requires-4 : tie.Need-no-fraction-requires-4
+no-fraction-requires-4 c κs = search needs
+
+returns : tie.Need-returns
+returns c =
+    let a = c .before .before .before .before .before .before .before .before .before .before .args in
+    let mark = rw (c .before .before .before .before .before .before .mark .given .1) at (c .before .before .before .before .before .before .before .before .one-of .ensures) in
+    let frac = rw (c .before .before .fraction .given .1) at (c .before .before .before .before .fraction-nanosecond .ensures) in
+    there (a .minute) (a .second) (a .s .now) (a .at) (a .more) _ _ _ _ (says-seq-got (either 44 46) (a .s .now) (a .at) (λ _. fraction) tt _ false _ _ mark frac) (c .either-open .ensures)
+
+returns-2 : tie.Need-returns-2
+returns-2 c = absurd (fraction-never-stops _ _ _ (sym (rw (c .enum-told .given .1) at (c .before .before .fraction-nanosecond .ensures) .found)))
+
+returns-3 : tie.Need-returns-3
+returns-3 c =
+    let a = c .before .before .before .before .before .before .before .before .before .args in
+    let mark = rw (c .before .before .before .before .before .mark .given .1) at (c .before .before .before .before .before .before .before .one-of .ensures) in
+    let frac = rw (c .before .enum-told2 .given .1) at (c .before .before .before .fraction-nanosecond .ensures) in
+    rw (c .no-fraction .ensures .0, c .no-fraction .ensures .1) (left-out (a .minute) (a .second) (a .s .now) (a .at) (a .more) _ false (says-seq-got (either 44 46) (a .s .now) (a .at) (λ _. fraction) tt _ false _ _ mark frac) (sym (or-false (a .more))))
+
+returns-4 : tie.Need-returns-4
+returns-4 c =
+    let a = c .before .before .before .before .before .before .before .before .before .args in
+    let mark = rw (c .before .before .before .before .before .mark .given .1) at (c .before .before .before .before .before .before .before .one-of .ensures) in
+    let frac = rw (c .before .enum-told3 .given .1) at (c .before .before .before .fraction-nanosecond .ensures) in
+    rw (c .no-fraction2 .ensures .0, c .no-fraction2 .ensures .1) (left-out (a .minute) (a .second) (a .s .now) (a .at) (a .more) _ true (says-seq-got (either 44 46) (a .s .now) (a .at) (λ _. fraction) tt _ false _ _ mark frac) (sym (or-true (a .more))))
+
+returns-5 : tie.Need-returns-5
+returns-5 c =
+    let a = c .before .before .before .before .before .args in
+    let mark = rw (c .before .enum-told4 .given .1) at (c .before .before .before .one-of .ensures) in
+    rw (c .no-fraction3 .ensures .0, c .no-fraction3 .ensures .1) (left-out (a .minute) (a .second) (a .s .now) (a .at) (a .more) _ false (says-seq-no (either 44 46) (a .s .now) (a .at) (λ _. fraction) false mark) (sym (or-false (a .more))))
+
+returns-6 : tie.Need-returns-6
+returns-6 c =
+    let a = c .before .before .before .before .before .args in
+    let mark = rw (c .before .enum-told5 .given .1) at (c .before .before .before .one-of .ensures) in
+    rw (c .no-fraction4 .ensures .0, c .no-fraction4 .ensures .1) (left-out (a .minute) (a .second) (a .s .now) (a .at) (a .more) _ true (says-seq-no (either 44 46) (a .s .now) (a .at) (λ _. fraction) true mark) (sym (or-true (a .more))))
+
+pub time-millisecond-spec : {M : Type 1} → statement M
+time-millisecond-spec =
+    tie.close
+    (tie.spec
+    one-of-requires
+    enum-known-mark
+    fraction-nanosecond-requires
+    enum-known-fraction
+    either-open-requires
+    enum-told
+    enum-told-2
+    no-fraction-requires
+    enum-told-3
+    no-fraction-requires-2
+    enum-told-4
+    no-fraction-requires-3
+    enum-told-5
+    no-fraction-requires-4
+    returns
+    returns-2
+    returns-3
+    returns-4
+    returns-5
+    returns-6)

@@ -1,0 +1,37 @@
+-- The code's answers as the paper's.
+use mathlib.Core.Bool.{Bool, true, false}
+use Rattle.types.specs.declared.Time.{Time}
+use Rattle.types.specs.Numbers.{numberOf}
+use Rattle.parser.specs.Reading.{Found, no, got}
+use Rattle.parser.specs.Answer.{Told, recorded, refused}
+use Rattle.time.specs.Rules.{Clock}
+use Rattle.time.specs.declared.ClockFound.{ClockFound}
+use Rattle.time.specs.declared.ClockFound.the-variants as clock
+use Rattle.time.specs.declared.TimeFound.{TimeFound}
+use Rattle.time.specs.declared.TimeFound.the-variants as found
+use Rattle.time.specs.declared.TimeAnswer.{TimeAnswer}
+use Rattle.time.specs.declared.TimeAnswer.the-variants as answer
+
+abbrev pub clockFound : ClockFound → Found Clock
+clockFound (clock.Got mi se na n m) = got (record { minute = mi; second = se; nanosecond = na }) n
+clockFound clock.Wrong = no
+clockFound clock.Cut = no
+
+abbrev pub clockMore : ClockFound → Bool
+clockMore (clock.Got mi se na n m) = m
+clockMore clock.Wrong = false
+clockMore clock.Cut = true
+
+abbrev pub timeFound : TimeFound → Found Time
+timeFound (found.Got t n m) = got t n
+timeFound found.Wrong = no
+timeFound found.Cut = no
+
+abbrev pub timeMore : TimeFound → Bool
+timeMore (found.Got t n m) = m
+timeMore found.Wrong = false
+timeMore found.Cut = true
+
+abbrev pub timeTold : TimeAnswer → Told Time
+timeTold (answer.Record t n) = recorded t n
+timeTold (answer.Refused r n) = refused (numberOf r) n

@@ -1,0 +1,300 @@
+// Times of day (time.rs).
+ghost use mathlib.Core.Path.{_≡_};
+ghost use mathlib.Core.Option.{none};
+ghost use Rattle.parser.specs.Reading.{Says, SaysOn, got};
+ghost use Rattle.parser.specs.Answer.{Begins, Ended, Rest, refused, ended};
+ghost use Rattle.time.specs.Rules.{clockOf, timeOf, millisecond, secondMillisecond, minuteSecondMillisecond, timeOffset, afterHour, baseTime, time};
+ghost use Rattle.time.specs.Answer.{clockFound, clockMore, timeFound, timeMore, timeTold};
+use offset::OffsetFound;
+use parser::Mark;
+use parser::Number;
+use parser::Run;
+use types::Refusal;
+use types::Time;
+use types::TimeOffset;
+use types::Verdict;
+
+// What reading minute, second and fraction at a place finds; an absent one is 0. `more`, Wrong and Cut: as in TimeFound.
+pub enum ClockFound {
+    Got {
+        minute: u32,
+        second: u32,
+        nanosecond: u32,
+        next: usize,
+        more: bool,
+    },
+    Wrong,
+    Cut,
+}
+
+// What reading at a place finds. `more`: the input ended where a byte more could still matter. Wrong: nothing, whatever follows.
+// Cut: nothing yet, but the input ended where it could still come right.
+pub enum TimeFound {
+    Got {
+        value: Time,
+        next: usize,
+        more: bool,
+    },
+    Wrong,
+    Cut,
+}
+
+// A record with the count of its bytes; or a refusal with the bytes that the form took, 0 unless bytes are left over.
+pub enum TimeAnswer {
+    Record { value: Time, count: usize },
+    Refused { why: Refusal, count: usize },
+}
+
+// The answer on a beginning, and whether a longer input could get another.
+pub struct TimeRead {
+    pub answer: TimeAnswer,
+    pub verdict: Verdict,
+}
+
+// A clock without a fraction.
+fn no_fraction(minute: u32, second: u32, next: usize, more: bool) -> ClockFound
+    ensures found { λ r. ⌜ clockFound r ≡ got (clockOf minute second none) next ⌝ }
+    ensures more { λ r. ⌜ clockMore r ≡ more ⌝ }
+{
+    ClockFound::Got {
+        minute,
+        second,
+        nanosecond: 0,
+        next,
+        more,
+    }
+}
+
+// [(,|.)(m*)]; `more`: what came before was left open
+fn time_millisecond(s: &[u8], at: usize, minute: u32, second: u32, more: bool) -> ClockFound
+    ensures { λ r. ⌜ SaysOn more (millisecond minute second) (now (s .entry)) at (clockFound r) (clockMore r) ⌝ }
+{
+    let mark = parser::one_of(s, at, 44, 46);
+    match mark {
+        Mark::Got { next } => {
+            let fraction = parser::fraction_nanosecond(s, next);
+            match fraction {
+                Run::Got {
+                    value,
+                    next,
+                    more: longer,
+                } => ClockFound::Got {
+                    minute,
+                    second,
+                    nanosecond: value,
+                    next,
+                    more: parser::either_open(more, longer),
+                },
+                Run::TooBig => ClockFound::Wrong,
+                Run::Wrong => no_fraction(minute, second, at, more),
+                Run::Cut => no_fraction(minute, second, at, true),
+            }
+        }
+        Mark::Wrong => no_fraction(minute, second, at, more),
+        Mark::Cut => no_fraction(minute, second, at, true),
+    }
+}
+
+// [[:]SS][(,|.)(m*)]
+fn time_second_millisecond(s: &[u8], at: usize, minute: u32) -> ClockFound
+    ensures { λ r. ⌜ Says (secondMillisecond minute) (now (s .entry)) at (clockFound r) (clockMore r) ⌝ }
+{
+    let second = parser::after_colon(s, at, 60);
+    match second {
+        Number::Got { value, next } => time_millisecond(s, next, minute, value, false),
+        Number::Wrong => time_millisecond(s, at, minute, 0, false),
+        Number::Cut => time_millisecond(s, at, minute, 0, true),
+    }
+}
+
+// [:]MM[[:]SS][(,|.)(m*)]
+pub fn time_minute_second_millisecond(s: &[u8], at: usize) -> ClockFound
+    ensures { λ r. ⌜ Says minuteSecondMillisecond (now (s .entry)) at (clockFound r) (clockMore r) ⌝ }
+{
+    let minute = parser::after_colon(s, at, 59);
+    match minute {
+        Number::Got { value, next } => time_second_millisecond(s, next, value),
+        Number::Wrong => ClockFound::Wrong,
+        Number::Cut => ClockFound::Cut,
+    }
+}
+
+// [(Z|+...|-...)]; `more`: what came before was left open. An offset that is refused leaves the time standing.
+fn time_offset(
+    s: &[u8],
+    at: usize,
+    hour: u32,
+    minute: u32,
+    second: u32,
+    nanosecond: u32,
+    more: bool,
+) -> TimeFound
+    ensures { λ r. ⌜ SaysOn more (timeOffset hour (record { minute = minute; second = second; nanosecond = nanosecond })) (now (s .entry)) at (timeFound r) (timeMore r) ⌝ }
+{
+    let found = offset::offset_at(s, at);
+    match found {
+        OffsetFound::Got {
+            value,
+            next,
+            more: longer,
+        } => TimeFound::Got {
+            value: Time {
+                hour,
+                minute,
+                second,
+                nanosecond,
+                offset: TimeOffset::Given(value),
+            },
+            next,
+            more: parser::either_open(more, longer),
+        },
+        OffsetFound::Wrong => no_offset(hour, minute, second, nanosecond, at, more),
+        OffsetFound::Cut => no_offset(hour, minute, second, nanosecond, at, true),
+    }
+}
+
+// A time without an offset.
+fn no_offset(
+    hour: u32,
+    minute: u32,
+    second: u32,
+    nanosecond: u32,
+    next: usize,
+    more: bool,
+) -> TimeFound
+    ensures found { λ r. ⌜ timeFound r ≡ got (timeOf hour (record { minute = minute; second = second; nanosecond = nanosecond }) none) next ⌝ }
+    ensures more { λ r. ⌜ timeMore r ≡ more ⌝ }
+{
+    TimeFound::Got {
+        value: Time {
+            hour,
+            minute,
+            second,
+            nanosecond,
+            offset: TimeOffset::Absent,
+        },
+        next,
+        more,
+    }
+}
+
+// What follows the hour.
+fn time_after_hour(s: &[u8], at: usize, hour: u32) -> TimeFound
+    ensures { λ r. ⌜ Says (afterHour hour) (now (s .entry)) at (timeFound r) (timeMore r) ⌝ }
+{
+    let clock = time_minute_second_millisecond(s, at);
+    match clock {
+        ClockFound::Got {
+            minute,
+            second,
+            nanosecond,
+            next,
+            more,
+        } => time_offset(s, next, hour, minute, second, nanosecond, more),
+        ClockFound::Wrong => time_offset(s, at, hour, 0, 0, 0, false),
+        ClockFound::Cut => time_offset(s, at, hour, 0, 0, 0, true),
+    }
+}
+
+// HH[[:]MM[[:]SS][(,|.)(m*)]][(Z|+...|-...)]
+pub fn base_time(s: &[u8], at: usize) -> TimeFound
+    ensures { λ r. ⌜ Says baseTime (now (s .entry)) at (timeFound r) (timeMore r) ⌝ }
+{
+    let hour = parser::time_hour(s, at);
+    match hour {
+        Number::Got { value, next } => time_after_hour(s, next, value),
+        Number::Wrong => TimeFound::Wrong,
+        Number::Cut => TimeFound::Cut,
+    }
+}
+
+// [T]HH...
+pub fn time_at(s: &[u8], at: usize) -> TimeFound
+    ensures { λ r. ⌜ Says time (now (s .entry)) at (timeFound r) (timeMore r) ⌝ }
+{
+    let mark = parser::literal(s, at, 84);
+    match mark {
+        Mark::Got { next } => base_time(s, next),
+        Mark::Wrong => base_time(s, at),
+        Mark::Cut => TimeFound::Cut,
+    }
+}
+
+// Reads the time that the bytes begin with.
+pub fn time(s: &[u8]) -> TimeRead
+    ensures { λ r. ⌜ Begins 3 time (now (s .entry)) (timeTold (r .answer)) (r .verdict) ⌝ }
+{
+    let found = time_at(s, 0);
+    match found {
+        TimeFound::Got { value, next, more } => TimeRead {
+            answer: TimeAnswer::Record { value, count: next },
+            verdict: parser::verdict_on(more),
+        },
+        TimeFound::Wrong => no_form(Verdict::Settled),
+        TimeFound::Cut => no_form(Verdict::Open),
+    }
+}
+
+fn no_form(verdict: Verdict) -> TimeRead
+    ensures { λ r. ⌜ (timeTold (r .answer) ≡ refused 1 0) × (r .verdict ≡ verdict) ⌝ }
+{
+    TimeRead {
+        answer: TimeAnswer::Refused {
+            why: Refusal::NoForm,
+            count: 0,
+        },
+        verdict,
+    }
+}
+
+// The bytes that `time` leaves: those after the time, or all of them where there is none.
+pub fn time_rest(s: &[u8]) -> &[u8]
+    ensures { λ r. ⌜ Rest time (now (s .entry)) (now r) ⌝ }
+{
+    let found = time_at(s, 0);
+    match found {
+        TimeFound::Got {
+            value: _,
+            next,
+            more: _,
+        } => parser::leftover(s, next),
+        TimeFound::Wrong => s,
+        TimeFound::Cut => s,
+    }
+}
+
+// Reads bytes that are one time from the first to the last.
+pub fn parse_time(s: &[u8]) -> TimeAnswer
+    ensures { λ r. ⌜ Ended time (now (s .entry)) (timeTold r) ⌝ }
+{
+    let found = time_at(s, 0);
+    match found {
+        TimeFound::Got {
+            value,
+            next,
+            more: _,
+        } => whole_time(value, next, s.len()),
+        TimeFound::Wrong => TimeAnswer::Refused {
+            why: Refusal::NoForm,
+            count: 0,
+        },
+        TimeFound::Cut => TimeAnswer::Refused {
+            why: Refusal::NoForm,
+            count: 0,
+        },
+    }
+}
+
+// A record, unless bytes are left over.
+fn whole_time(value: Time, count: usize, length: usize) -> TimeAnswer
+    ensures { λ r. ⌜ timeTold r ≡ ended length (got value count) ⌝ }
+{
+    if count < length {
+        TimeAnswer::Refused {
+            why: Refusal::LeftOver,
+            count,
+        }
+    } else {
+        TimeAnswer::Record { value, count }
+    }
+}
