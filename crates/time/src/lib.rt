@@ -77,13 +77,13 @@ fn time_millisecond(s: &[u8], at: usize, minute: u32, second: u32, more: bool) -
                 Run::Got {
                     value,
                     next,
-                    more: longer,
+                    more: digits,
                 } => ClockFound::Got {
                     minute,
                     second,
                     nanosecond: value,
                     next,
-                    more: parser::either_open(more, longer),
+                    more: parser::either_open(more, digits),
                 },
                 Run::TooBig => ClockFound::Wrong,
                 Run::Wrong => no_fraction(minute, second, at, more),
@@ -131,6 +131,7 @@ fn time_offset(
 ) -> TimeFound
     ensures { λ r. ⌜ SaysOn more (timeOffset hour (record { minute = minute; second = second; nanosecond = nanosecond })) (now (s .entry)) at (timeFound r) (timeMore r) ⌝ }
 {
+    let bare = no_offset(hour, minute, second, nanosecond, at, more);
     let found = offset::offset_at(s, at);
     match found {
         OffsetFound::Got {
@@ -148,7 +149,7 @@ fn time_offset(
             next,
             more: parser::either_open(more, longer),
         },
-        OffsetFound::Wrong => no_offset(hour, minute, second, nanosecond, at, more),
+        OffsetFound::Wrong => bare,
         OffsetFound::Cut => no_offset(hour, minute, second, nanosecond, at, true),
     }
 }
