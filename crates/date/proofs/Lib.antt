@@ -1,0 +1,5 @@
+pub mod General
+pub mod Parts
+pub mod Dash
+pub mod Laws
+pub mod Once

@@ -1,0 +1,65 @@
+-- From the place after a dash, if there is one: a day, or none.
+use Prim.Native.Nat.{ℕ}
+use mathlib.Core.List.{List}
+use mathlib.Core.Bool.{Bool}
+use mathlib.Core.Path.{_≡_, refl}
+use native.Mathlib.Omega.{arith}
+use Rattle.parser.specs.Reading.{Found, Says, lit, opt, lack, mapFound}
+use Rattle.parser.specs.Digits.{reach, lowest, highest}
+use Rattle.parser.specs.Fields.{day, precededBy}
+use Rattle.date.specs.Rules.{orFirst, dayOfMonth}
+use Rattle.date.specs.Answer.{placeAfter}
+use Rattle.parser.proofs.Says.{says-map, says-opt}
+use Rattle.date.proofs.General.{field-eager, says-past}
+use borrow.Author.Needs.{needs}
+use Rattle.date.proofs.day_of_month.Statement.{statement}
+use Rattle.date.proofs.day_of_month.Tie as tie
+
+of-day : (s : List ℕ) (at from : ℕ) (f : Found ℕ) (m : Bool) → from ≡ placeAfter at (lit 45 .reads s at) → Says day s from f m → Says dayOfMonth s at (mapFound orFirst (lack at f)) m
+unfolding dayOfMonth reach lowest highest
+of-day s at from f m e h =
+    let p = precededBy 45 day in
+    says-map (opt p) s at orFirst _ m (says-opt p s at f m (says-past 45 day (field-eager 2 1 31 (omega arith) refl) s at from f m e h))
+
+past-sep-requires : tie.Need-past-sep-requires
+past-sep-requires c κs = search needs
+
+date-day-requires : tie.Need-date-day-requires
+date-day-requires c κs = search needs
+
+enum-known-day-found : tie.Need-enum-known-day-found
+enum-known-day-found c = search needs
+
+enum-told : tie.Need-enum-told
+enum-told c = search needs
+
+enum-told-2 : tie.Need-enum-told-2
+enum-told-2 c = search needs
+
+returns : tie.Need-returns
+returns c =
+    let a = c .before .before .before .before .before .before .args in
+    of-day (a .s .now) (a .at) _ _ _ (c .before .before .before .before .past-sep .ensures) (rw (c .before .day-found .given .1) at (c .before .before .before .date-day .ensures))
+
+returns-2 : tie.Need-returns-2
+returns-2 c =
+    let a = c .before .before .before .before .before .args in
+    of-day (a .s .now) (a .at) _ _ _ (c .before .before .before .past-sep .ensures) (rw (c .enum-told .given .1) at (c .before .before .date-day .ensures))
+
+returns-3 : tie.Need-returns-3
+returns-3 c =
+    let a = c .before .before .before .before .before .args in
+    of-day (a .s .now) (a .at) _ _ _ (c .before .before .before .past-sep .ensures) (rw (c .enum-told2 .given .1) at (c .before .before .date-day .ensures))
+
+pub day-of-month-spec : {M : Type 1} → statement M
+day-of-month-spec =
+    tie.close
+    (tie.spec
+    past-sep-requires
+    date-day-requires
+    enum-known-day-found
+    enum-told
+    enum-told-2
+    returns
+    returns-2
+    returns-3)

@@ -1,0 +1,60 @@
+-- The code's answers as what the rules and the paper's table speak of, and what the code reads at one go.
+use Prim.Native.Nat.{ℕ}
+use mathlib.Core.Bool.{Bool, true, false}
+use lib.IntN.{ℤ}
+use Rattle.types.specs.Numbers.{numberOf}
+use Rattle.types.specs.declared.Date.{Date}
+use Rattle.parser.specs.Reading.{Found, no, got, stop, Reader, alt}
+use Rattle.parser.specs.Answer.{Told, recorded, refused}
+use Rattle.date.specs.Rules.{wd, mdNumeric, ddd, md}
+use Rattle.date.specs.declared.YearFound.{YearFound}
+use Rattle.date.specs.declared.YearFound.the-variants as year
+use Rattle.date.specs.declared.DayFound.{DayFound}
+use Rattle.date.specs.declared.DayFound.the-variants as day
+use Rattle.date.specs.declared.DateFound.{DateFound}
+use Rattle.date.specs.declared.DateFound.the-variants as date
+use Rattle.date.specs.declared.DateAnswer.{DateAnswer}
+use Rattle.date.specs.declared.DateAnswer.the-variants.{Record, Refused}
+
+abbrev pub yearFound : YearFound → Found ℤ
+yearFound (year.Got v n) = got v n
+yearFound year.Wrong = no
+yearFound year.Cut = no
+
+abbrev pub yearMore : YearFound → Bool
+yearMore (year.Got v n) = false
+yearMore year.Wrong = false
+yearMore year.Cut = true
+
+abbrev pub dayFound : DayFound → Found ℕ
+dayFound (day.Got v n m) = got v n
+dayFound day.Wrong = no
+
+abbrev pub dayMore : DayFound → Bool
+dayMore (day.Got v n m) = m
+dayMore day.Wrong = false
+
+abbrev pub dateFound : DateFound → Found Date
+dateFound (date.Got v n m) = got v n
+dateFound date.Wrong = no
+dateFound date.Cut = no
+
+abbrev pub dateMore : DateFound → Bool
+dateMore (date.Got v n m) = m
+dateMore date.Wrong = false
+dateMore date.Cut = true
+
+-- what follows the year, which the code reads once for the four alternatives; `proofs/Laws.antt` shows that both read alike
+unfoldable pub afterYear : ℤ → Reader Date
+afterYear y = alt (wd y) (alt (mdNumeric y) (alt (ddd y) (md y)))
+
+-- the place after an optional item
+abbrev pub placeAfter : {A : Type 0} → ℕ → Found A → ℕ
+placeAfter at (got a n) = n
+placeAfter at no = at
+placeAfter at (stop r) = at
+
+-- the paper's number, the record if there is one, and the count
+abbrev pub dateTold : DateAnswer → Told Date
+dateTold (Record d n) = recorded d n
+dateTold (Refused why n) = refused (numberOf why) n

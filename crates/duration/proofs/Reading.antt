@@ -1,0 +1,148 @@
+-- What the code makes of the time is what the rules read: part by part, each from the place that the one before it left.
+use Prim.Native.Nat.{ℕ, _<_, _≤_}
+use mathlib.Core.List.{List}
+use mathlib.Core.Bool.{Bool, true, false}
+use mathlib.Core.Option.{Option, some, none}
+use mathlib.Core.Path.{_≡_, refl, sym, _∙_}
+use native.Mathlib.Omega.{arith}
+use lib.ListN.{length}
+use lib.Dec.{ltb, eqb}
+use borrow.Author.Tests.{ltb-true, ltb-false, lt-ltb, le-ltb}
+use Rattle.parser.specs.Reading.{Found, no, got, stop, Reader, lit, seq, opt, verify, keep, map, mapFound, give, pick, or, Says}
+use Rattle.parser.proofs.Fields.{true≢false}
+use Rattle.parser.proofs.Says.{says-map, says-verify, says-opt, says-seq-got}
+use Rattle.duration.specs.Rules.{part, present, orZero, TimeParts, someTime, timeOf, durationBaseTime, durationTime}
+use Rattle.duration.specs.Answer.{timeFound, timeMore}
+use Rattle.duration.specs.Items.{itemAt, here, past, absentPart, partAt, isCut, unlessTooBig, timeParts}
+use Rattle.duration.specs.declared.DurationTimeParts.{DurationTimeParts}
+use Rattle.duration.specs.declared.TimeFound.{TimeFound}
+use Rattle.duration.specs.declared.Part.{Part}
+use Rattle.duration.specs.declared.Item.{Item}
+use Rattle.duration.specs.declared.Item.the-variants as item
+use Rattle.duration.proofs.Items.{Heeds, part-heeds, optional-part, last-part, map-pick, further, no-letter, end-item}
+
+-- ---- H, M and S
+
+abbrev clock : Option ℕ → Option ℕ → Option ℕ → TimeParts
+clock h m x = record { hours = h; minutes = m; seconds = x }
+
+abbrev from-s : Option ℕ → Option ℕ → Reader TimeParts
+from-s h m = seq (opt (part 83)) (λ x. give (clock h m x))
+
+abbrev from-m : Option ℕ → Reader TimeParts
+from-m h = seq (opt (part 77)) (λ m. from-s h m)
+
+-- places that follow each other: the last lies beyond the first where some step goes on
+pub or-lt : (a b c : ℕ) (t : Bool) → a ≤ b → b ≤ c → t ≡ ltb b c → or (ltb a b) t ≡ ltb a c
+or-lt a b c t ab bc e = go (ltb a b) refl
+  where
+    go : (u : Bool) → ltb a b ≡ u → or u t ≡ ltb a c
+    go true h = sym (lt-ltb a c (omega (arith, ltb-true a b h)))
+    go false h = let same : b ≡ a = omega (arith, ltb-false a b h) in rw same at e
+
+-- one is there, and an absent one is 0
+kept-time : (i : Item) (t : TimeParts) (n : ℕ) → mapFound timeOf (keep someTime (unlessTooBig i (got t n))) ≡ unlessTooBig i (pick (someTime t) (got (timeOf t) n) no)
+kept-time (item.Number v b k) t n = sym (map-pick timeOf (someTime t) t n)
+kept-time item.TooBig t n = refl
+kept-time item.Wrong t n = sym (map-pick timeOf (someTime t) t n)
+kept-time item.Cut t n = sym (map-pick timeOf (someTime t) t n)
+
+abbrev after-h : List ℕ → ℕ → ℕ
+after-h s at = past 72 at (itemAt s at)
+
+abbrev after-m : List ℕ → ℕ → ℕ
+after-m s at = past 77 (after-h s at) (itemAt s (after-h s at))
+
+base-time : (s : List ℕ) (at : ℕ) → Says durationBaseTime s at (unlessTooBig (itemAt s (after-m s at)) (timeParts at (partAt s at 72) (partAt s (after-h s at) 77) (partAt s (after-m s at) 83))) (isCut (itemAt s (after-m s at)))
+unfolding durationBaseTime
+base-time s at =
+    let mat = after-h s at in
+    let sat = after-m s at in
+    let end = past 83 sat (itemAt s sat) in
+    let h = here 72 (itemAt s at) in
+    let m = here 77 (itemAt s mat) in
+    let t = clock h m (here 83 (itemAt s sat)) in
+    let f = unlessTooBig (itemAt s sat) (got t end) in
+    let o = isCut (itemAt s sat) in
+    let xs : Says (from-s h m) s sat f o = last-part 83 (clock h m) s sat in
+    let ms : Says (from-m h) s mat f o = optional-part 77 (from-s h) s mat sat f o (part-heeds 83 (λ x. give (clock h none x)) s mat) refl xs in
+    let hs : Says (seq (opt (part 72)) from-m) s at f o = optional-part 72 from-m s at mat f o (part-heeds 77 (from-s none) s at) refl ms in
+    let whole = says-map _ s at timeOf _ o (says-verify _ s at someTime f o hs) in
+    let hf = further 72 s at in
+    let mf = further 77 s mat in
+    let xf = further 83 s sat in
+    let some : someTime t ≡ ltb at end = rw (hf .there, mf .there, xf .there) (or-lt at mat end _ (hf .order) (omega arith) (or-lt mat sat end _ (mf .order) (xf .order) refl)) in
+    record { found = sym (kept-time (itemAt s sat) t end ∙ rw some) ∙ whole .found; more = whole .more }
+
+-- a part that is not there is absent
+part-absent : (at : ℕ) (i : Item) → present (here 83 i) ≡ false → record { value = orZero (here 83 i); next = past 83 at i } ≡ absentPart at
+part-absent at (item.Number v b n) e = letter (eqb b 83) e
+  where
+    letter : (t : Bool) → present (pick t (some v) none) ≡ false → record { value = orZero (pick t (some v) none); next = pick t n at } ≡ absentPart at
+    letter true e = absurd (true≢false e)
+    letter false e = refl
+part-absent at item.TooBig e = refl
+part-absent at item.Wrong e = refl
+part-absent at item.Cut e = refl
+
+module _ (s : List ℕ) (at : ℕ) (h m x : Part) (eh : h ≡ partAt s at 72) (em : m ≡ partAt s (h .next) 77) (ex : x ≡ partAt s (m .next) 83) where
+  time-made : Says durationBaseTime s at (unlessTooBig (itemAt s (m .next)) (timeParts at h m x)) (isCut (itemAt s (m .next)))
+  time-made = rw (ex, em, eh) (base-time s at)
+
+  in-order : at ≤ m .next
+  in-order =
+      let a : at ≤ h .next = rw eh (further 72 s at .order) in
+      let b : h .next ≤ m .next = rw em (further 77 s (h .next) .order) in
+      omega arith
+
+  pub with-seconds : m .next < x .next → Says durationBaseTime s at (got (record { hours = h .value; minutes = m .value; seconds = x .value }) (x .next)) false
+  with-seconds lt = go (itemAt s (m .next)) (rw ex at lt) time-made
+    where
+      beyond : ltb at (x .next) ≡ true
+      beyond = lt-ltb at (x .next) (omega (arith, in-order))
+
+      go : (i : Item) → m .next < past 83 (m .next) i → Says durationBaseTime s at (unlessTooBig i (timeParts at h m x)) (isCut i) → Says durationBaseTime s at (got (record { hours = h .value; minutes = m .value; seconds = x .value }) (x .next)) false
+      go (item.Number v b n) l k = rw beyond at k
+      go item.TooBig l k = absurd (omega arith)
+      go item.Wrong l k = absurd (omega arith)
+      go item.Cut l k = absurd (omega arith)
+
+  pub without-seconds : (last : Item) (r : TimeFound) → x .next ≤ m .next → last ≡ itemAt s (m .next) → timeFound r ≡ unlessTooBig last (timeParts at h m (absentPart (m .next))) → timeMore r ≡ isCut last → Says durationBaseTime s at (timeFound r) (timeMore r)
+  without-seconds last r le el ef eo =
+      let l : past 83 (m .next) (itemAt s (m .next)) ≤ m .next = rw ex at le in
+      let none-there : x ≡ absentPart (m .next) = ex ∙ part-absent (m .next) (itemAt s (m .next)) (further 83 s (m .next) .there ∙ le-ltb _ _ l) in
+      rw (ef, eo, el) (rw none-there at time-made)
+
+base-heeds : (s : List ℕ) (at : ℕ) → Heeds durationBaseTime s at
+unfolding durationBaseTime map verify
+base-heeds s at =
+    let h = part-heeds 72 from-m s at in
+    record { stops = λ e. says-map _ s at timeOf _ false (says-verify _ s at someTime _ false (h .stops e)); opens = h .opens }
+
+-- ---- the time, with its `T` and without
+
+pub or-false : (m : Bool) → or m false ≡ m
+or-false true = refl
+or-false false = refl
+
+pub time-with : (s : List ℕ) (at n : ℕ) (u : Unit) (f : Found DurationTimeParts) (m : Bool) → Says (lit 84) s at (got u n) false → Says durationBaseTime s n f m → Says durationTime s at f m
+unfolding durationTime
+time-with s at n u f m t k = says-seq-got (opt (lit 84)) s at (λ _. durationBaseTime) (some u) n false f m (says-opt (lit 84) s at (got u n) false t) k
+
+-- at the end of the input the parts are open as the `T` is
+pub time-without : (s : List ℕ) (at : ℕ) (f : Found DurationTimeParts) (m : Bool) → no ≡ lit 84 .reads s at → Says durationBaseTime s at f m → Says durationTime s at f m
+unfolding durationTime lit
+time-without s at f m t k = go (ltb at (length s)) refl
+  where
+    without : (b : Bool) → b ≡ lit 84 .more s at → Says (seq (opt (lit 84)) (λ _. durationBaseTime)) s at f (or b m)
+    without b e = says-seq-got (opt (lit 84)) s at (λ _. durationBaseTime) none at b f m (says-opt (lit 84) s at no b (record { found = t; more = e })) k
+
+    go : (b : Bool) → ltb at (length s) ≡ b → Says (seq (opt (lit 84)) (λ _. durationBaseTime)) s at f m
+    go true e = without false (rw e)
+    go false e = rw (k .more ∙ base-heeds s at .opens (end-item s at (ltb-false at (length s) e))) (without true (rw e))
+
+pub time-heeds : (s : List ℕ) (at : ℕ) → Heeds durationTime s at
+time-heeds s at = record {
+  stops = λ e. time-without s at (stop 2) false (sym (no-letter 84 s at refl (λ w. let z : _≡_ {A = ℕ} 0 1 = cc in omega arith))) (base-heeds s at .stops e);
+  opens = λ e. sym (time-without s at _ true (sym (no-letter 84 s at refl (λ w. let z : _≡_ {A = ℕ} 0 1 = cc in omega arith))) (record { found = refl; more = sym (base-heeds s at .opens e) }) .more);
+}

@@ -1,0 +1,116 @@
+-- What the code makes of Y, M, W, D and the time is what the rule reads, `P` and all.
+use Prim.Native.Nat.{ℕ}
+use mathlib.Core.List.{List}
+use mathlib.Core.Bool.{Bool, true, false}
+use mathlib.Core.Option.{Option, some, none}
+use mathlib.Core.Path.{_≡_, refl, sym, _∙_}
+use native.Mathlib.Omega.{arith}
+use lib.Dec.{ltb}
+use Rattle.types.specs.declared.Duration.{Duration}
+use Rattle.parser.specs.Reading.{Found, no, got, stop, Reader, lit, seq, opt, lack, verify, keep, map, mapFound, give, or, Says}
+use Rattle.parser.proofs.Says.{says-map, says-verify, says-opt, says-seq-got, says-seq-no, says-seq-stop}
+use Rattle.duration.specs.Rules.{part, present, orZero, durationTime, Parts, partsRule, somePart, durationOf, duration}
+use Rattle.duration.specs.Answer.{timeFound, timeMore, durationFound, durationMore}
+use Rattle.duration.specs.Items.{itemAt, here, past, partAt, allParts}
+use Rattle.duration.specs.declared.DurationTimeParts.{DurationTimeParts}
+use Rattle.duration.specs.declared.TimeFound.{TimeFound}
+use Rattle.duration.specs.declared.DurationFound.{DurationFound}
+use Rattle.duration.specs.declared.Part.{Part}
+use Rattle.duration.proofs.Items.{Heeds, part-heeds, optional-part, map-pick, further}
+use Rattle.duration.proofs.Reading.{or-false, or-lt, time-heeds}
+
+abbrev parts : Option ℕ → Option ℕ → Option ℕ → Option ℕ → Option DurationTimeParts → Parts
+parts y mo w d t = record { years = y; months = mo; weeks = w; days = d; time = t }
+
+abbrev from-t : Option ℕ → Option ℕ → Option ℕ → Option ℕ → Reader Parts
+from-t y mo w d = seq (opt durationTime) (λ t. give (parts y mo w d t))
+
+abbrev from-d : Option ℕ → Option ℕ → Option ℕ → Reader Parts
+from-d y mo w = seq (opt (part 68)) (λ d. from-t y mo w d)
+
+abbrev from-w : Option ℕ → Option ℕ → Reader Parts
+from-w y mo = seq (opt (part 87)) (λ w. from-d y mo w)
+
+abbrev from-mo : Option ℕ → Reader Parts
+from-mo y = seq (opt (part 77)) (λ mo. from-w y mo)
+
+-- ---- the optional time at the end
+
+module _ (y mo w d : Option ℕ) (s : List ℕ) (at : ℕ) where
+  the-time : (f : Found DurationTimeParts) (m : Bool) → Says durationTime s at f m → Says (from-t y mo w d) s at (mapFound (parts y mo w d) (lack at f)) m
+  unfolding give
+  the-time no m h = rw (← or-false m) (says-seq-got (opt durationTime) s at (λ t. give (parts y mo w d t)) none at m (got (parts y mo w d none) at) false (says-opt durationTime s at no m h) (record { found = refl; more = refl }))
+  the-time (stop r) m h = says-seq-stop (opt durationTime) s at (λ t. give (parts y mo w d t)) r m (says-opt durationTime s at (stop r) m h)
+  the-time (got t n) m h = rw (← or-false m) (says-seq-got (opt durationTime) s at (λ t. give (parts y mo w d t)) (some t) n m (got (parts y mo w d (some t)) n) false (says-opt durationTime s at (got t n) m h) (record { found = refl; more = refl }))
+
+  the-time-heeds : Heeds (from-t y mo w d) s at
+  unfolding seq opt
+  the-time-heeds = record {
+    stops = λ e. says-seq-stop (opt durationTime) s at (λ t. give (parts y mo w d t)) 2 false (says-opt durationTime s at (stop 2) false (time-heeds s at .stops e));
+    opens = λ e. rw (time-heeds s at .opens e);
+  }
+
+-- ---- one part is given, and an absent one is 0
+
+or-true : (m : Bool) → or m true ≡ true
+or-true true = refl
+or-true false = refl
+
+abbrev part-of : Option ℕ → ℕ → Part
+part-of o n = record { value = orZero o; next = n }
+
+kept-parts : (at i j k n : ℕ) (y mo w d : Option ℕ) → or (present y) (or (present mo) (or (present w) (present d))) ≡ ltb at n → (f : Found DurationTimeParts) → mapFound durationOf (keep somePart (mapFound (parts y mo w d) (lack n f))) ≡ allParts at (part-of y i) (part-of mo j) (part-of w k) (part-of d n) f
+kept-parts at i j k n y mo w d e no = rw (or-false (present d), e) (sym (map-pick durationOf (ltb at n) (parts y mo w d none) n))
+kept-parts at i j k n y mo w d e (stop r) = refl
+kept-parts at i j k n y mo w d e (got t x) = rw (or-true (present d), or-true (present w), or-true (present mo), or-true (present y))
+
+-- ---- Y, M, W, D and the time, each from the place that is left
+
+abbrev after-y : List ℕ → ℕ → ℕ
+after-y s at = past 89 at (itemAt s at)
+
+abbrev after-mo : List ℕ → ℕ → ℕ
+after-mo s at = past 77 (after-y s at) (itemAt s (after-y s at))
+
+abbrev after-w : List ℕ → ℕ → ℕ
+after-w s at = past 87 (after-mo s at) (itemAt s (after-mo s at))
+
+abbrev after-d : List ℕ → ℕ → ℕ
+after-d s at = past 68 (after-w s at) (itemAt s (after-w s at))
+
+all-parts : (s : List ℕ) (at : ℕ) (f : Found DurationTimeParts) (m : Bool) → Says durationTime s (after-d s at) f m → Says (map durationOf (verify somePart partsRule)) s at (allParts at (partAt s at 89) (partAt s (after-y s at) 77) (partAt s (after-mo s at) 87) (partAt s (after-w s at) 68) f) m
+unfolding partsRule
+all-parts s at f m k =
+    let mat = after-y s at in
+    let wat = after-mo s at in
+    let dat = after-w s at in
+    let tat = after-d s at in
+    let y = here 89 (itemAt s at) in
+    let mo = here 77 (itemAt s mat) in
+    let w = here 87 (itemAt s wat) in
+    let d = here 68 (itemAt s dat) in
+    let g = mapFound (parts y mo w d) (lack tat f) in
+    let ds : Says (from-d y mo w) s dat g m = optional-part 68 (from-t y mo w) s dat tat g m (the-time-heeds y mo w none s dat) refl (the-time y mo w d s tat f m k) in
+    let ws : Says (from-w y mo) s wat g m = optional-part 87 (from-d y mo) s wat dat g m (part-heeds 68 (from-t y mo none) s wat) refl ds in
+    let ms : Says (from-mo y) s mat g m = optional-part 77 (from-w y) s mat wat g m (part-heeds 87 (from-d y none) s mat) refl ws in
+    let ys : Says partsRule s at g m = optional-part 89 from-mo s at mat g m (part-heeds 77 (from-w none) s at) refl ms in
+    let whole = says-map _ s at durationOf _ m (says-verify _ s at somePart g m ys) in
+    let yf = further 89 s at in
+    let mf = further 77 s mat in
+    let wf = further 87 s wat in
+    let df = further 68 s dat in
+    let some : or (present y) (or (present mo) (or (present w) (present d))) ≡ ltb at tat = rw (yf .there, mf .there, wf .there, df .there) (or-lt at mat tat _ (yf .order) (omega arith) (or-lt mat wat tat _ (mf .order) (omega arith) (or-lt wat dat tat _ (wf .order) (df .order) refl))) in
+    record { found = sym (kept-parts at mat wat dat tat y mo w d some f) ∙ whole .found; more = whole .more }
+
+pub parts-made : (s : List ℕ) (at : ℕ) (y mo w d : Part) (t : TimeFound) (r : DurationFound) → y ≡ partAt s at 89 → mo ≡ partAt s (y .next) 77 → w ≡ partAt s (mo .next) 87 → d ≡ partAt s (w .next) 68 → Says durationTime s (d .next) (timeFound t) (timeMore t) → durationFound r ≡ allParts at y mo w d (timeFound t) → durationMore r ≡ timeMore t → Says (map durationOf (verify somePart partsRule)) s at (durationFound r) (durationMore r)
+parts-made s at y mo w d t r ey em ew ed k ef eo = rw (ef, eo, ed, ew, em, ey) (all-parts s at (timeFound t) (timeMore t) (rw (ed, ew, em, ey) at k))
+
+-- ---- `P`
+
+pub with-p : (s : List ℕ) (at n : ℕ) (u : Unit) (f : Found Duration) (m : Bool) → Says (lit 80) s at (got u n) false → Says (map durationOf (verify somePart partsRule)) s n f m → Says duration s at f m
+unfolding duration map verify seq
+with-p s at n u f m p k = record { found = rw (← p .found) (k .found); more = rw (← p .found, ← p .more) (k .more) }
+
+pub without-p : (s : List ℕ) (at : ℕ) (m : Bool) → Says (lit 80) s at no m → Says duration s at no m
+unfolding duration
+without-p s at m p = says-map _ s at durationOf no m (says-verify _ s at somePart no m (says-seq-no (lit 80) s at (λ _. partsRule) m p))

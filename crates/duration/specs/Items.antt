@@ -1,0 +1,73 @@
+-- A digit run is read once, with the byte behind it: whatever part is tried at that place, this decides it.
+use Prim.Native.Nat.{ℕ, _+_}
+use mathlib.Core.List.{List}
+use mathlib.Core.Bool.{Bool, true, false}
+use mathlib.Core.Option.{Option, some, none}
+use lib.ListN.{getD}
+use lib.Dec.{eqb, ltb}
+use Rattle.types.specs.declared.Duration.{Duration}
+use Rattle.parser.specs.Reading.{Found, no, got, stop, pick}
+use Rattle.parser.specs.Digits.{run}
+use Rattle.duration.specs.Rules.{orZero, timeOrZero}
+use Rattle.duration.specs.declared.DurationTimeParts.{DurationTimeParts}
+use Rattle.duration.specs.declared.Item.{Item}
+use Rattle.duration.specs.declared.Item.the-variants as item
+use Rattle.duration.specs.declared.Part.{Part}
+
+-- what a run makes, by whether the end of the input could still add to it
+abbrev pub itemOf : List ℕ → Found ℕ → Bool → Item
+itemOf s (got v n) true = item.Cut
+itemOf s (got v n) false = item.Number v (getD s n 0) (n + 1)
+itemOf s (stop r) m = item.TooBig
+itemOf s no true = item.Cut
+itemOf s no false = item.Wrong
+
+unfoldable pub itemAt : List ℕ → ℕ → Item
+itemAt s at = itemOf s (run .reads s at) (run .more s at)
+
+-- what the part of a letter finds there
+abbrev pub here : ℕ → Item → Option ℕ
+here c (item.Number v b n) = pick (eqb b c) (some v) none
+here c item.TooBig = none
+here c item.Wrong = none
+here c item.Cut = none
+
+-- and the place after it, if it is there
+abbrev pub past : ℕ → ℕ → Item → ℕ
+past c at (item.Number v b n) = pick (eqb b c) n at
+past c at item.TooBig = at
+past c at item.Wrong = at
+past c at item.Cut = at
+
+abbrev pub absentPart : ℕ → Part
+absentPart at = record { value = 0; next = at }
+
+abbrev pub partAt : List ℕ → ℕ → ℕ → Part
+partAt s at c = record { value = orZero (here c (itemAt s at)); next = past c at (itemAt s at) }
+
+-- ---- the parts together
+
+abbrev pub isCut : Item → Bool
+isCut (item.Number v b n) = false
+isCut item.TooBig = false
+isCut item.Wrong = false
+isCut item.Cut = true
+
+abbrev pub unlessTooBig : {A : Type 0} → Item → Found A → Found A
+unlessTooBig (item.Number v b n) f = f
+unlessTooBig item.TooBig f = stop 2
+unlessTooBig item.Wrong f = f
+unlessTooBig item.Cut f = f
+
+-- H, M and S from a place on: one is there, so that they end further on
+abbrev pub timeParts : ℕ → Part → Part → Part → Found DurationTimeParts
+timeParts at h m x = pick (ltb at (x .next)) (got (record { hours = h .value; minutes = m .value; seconds = x .value }) (x .next)) no
+
+abbrev pub recordOf : Part → Part → Part → Part → DurationTimeParts → Duration
+recordOf y mo w d t = record { years = y .value; months = mo .value; weeks = w .value; days = d .value; hours = t .hours; minutes = t .minutes; seconds = t .seconds }
+
+-- Y, M, W and D from a place on, and the time that was read behind them: without it, one of them is there
+abbrev pub allParts : ℕ → Part → Part → Part → Part → Found DurationTimeParts → Found Duration
+allParts at y mo w d (got t n) = got (recordOf y mo w d t) n
+allParts at y mo w d (stop r) = stop r
+allParts at y mo w d no = pick (ltb at (d .next)) (got (recordOf y mo w d (timeOrZero none)) (d .next)) no
