@@ -16,8 +16,9 @@ use Rattle.parser.specs.Fields.{month, day}
 use Rattle.parser.proofs.Fields.{true≢false, OtherAt}
 use Rattle.parser.proofs.Says.{says-seq-no, says-alt-no}
 use Rattle.date.specs.Rules.{dash, weekOfYear, week, dayOfWeek, weekAndDay, wd, mdNumeric, dayOfYear, ordinal, ddd, monthAndDay, md}
-use Rattle.date.specs.Answer.{placeAfter, afterYear}
-use Rattle.date.proofs.General.{Eager, lit-eager, seq-eager, map-eager, field-eager, SameFrom, same-says, preceded-same, after-same, alt-same, alt-drop, field-no, field-wrong}
+use Rattle.parser.specs.Read.{placeAfter}
+use Rattle.date.specs.Answer.{afterYear}
+use Rattle.parser.proofs.General.{Eager, lit-eager, seq-eager, map-eager, field-eager, SameFrom, same-says, preceded-same, after-same, alt-same, alt-drop, field-no, field-wrong}
 
 weekAndDay-eager : (y : ℤ) → Eager (weekAndDay y)
 unfolding weekAndDay

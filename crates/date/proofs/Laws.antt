@@ -6,7 +6,7 @@ use Rattle.parser.proofs.Hopeful.{Hopeful, Anything}
 use Rattle.parser.proofs.Alike.{Alike, alike-refl, common-beginning, alike-hopeful}
 use Rattle.date.specs.Rules.{year, wd, ywd, mdNumeric, ymdNumeric, ddd, yddd, md, ymd, date}
 use Rattle.date.specs.Answer.{afterYear}
-use Rattle.date.proofs.General.{Lawful, seq-lawful, alt-lawful, then-starts-hopeful}
+use Rattle.parser.proofs.General.{Lawful, seq-lawful, alt-lawful, then-starts-hopeful}
 use Rattle.date.proofs.Parts.{T, W, year-lawful, year-fails, year-keeps, year-hopeful, wd-lawful, mdNumeric-lawful, ddd-lawful, md-lawful, afterYear-starts, afterYear-hopeful}
 
 -- the four alternatives read as one reading of the year and what follows it

@@ -1,4 +1,3 @@
-pub mod General
 pub mod Parts
 pub mod Dash
 pub mod Laws

@@ -20,7 +20,7 @@ use Rattle.parser.proofs.Hopeful.{Anything, Hopeful, Starts, Keeps, Definite, m
 use Rattle.parser.proofs.Leaves.{signed-stable, signed-bounded, signed-fails, signed-at-end, signed-foreign, Byte, DigitByte, From, Narrows, lit-starts, lit-at-end, lit-hopeful, lit-definite, field-hopeful, field-starts, field-definite, preceded-hopeful, preceded-fails, digit-is-not}
 use Rattle.date.specs.Rules.{minus, digitsOfYear, year, dash, orFirst, oneToSeven, weekOfYear, week, dayOfWeek, weekAndDay, wd, mdNumeric, dayOfYear, ordinal, ddd, dayOfMonth, monthAndDay, md}
 use Rattle.date.specs.Answer.{afterYear}
-use Rattle.date.proofs.General.{definite-keeps-any, map-starts, then-starts-hopeful, then-skips-hopeful, Lawful, lit-lawful, field-lawful, seq-lawful, opt-lawful, alt-lawful, verify-lawful, map-lawful, preceded-lawful}
+use Rattle.parser.proofs.General.{definite-keeps-any, map-starts, then-starts-hopeful, then-skips-hopeful, Lawful, lit-lawful, field-lawful, seq-lawful, opt-lawful, alt-lawful, verify-lawful, map-lawful, preceded-lawful}
 
 -- ---- stable, bounded, and deaf to `T`
 

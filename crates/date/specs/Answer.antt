@@ -48,12 +48,6 @@ dateMore date.Cut = true
 unfoldable pub afterYear : ℤ → Reader Date
 afterYear y = alt (wd y) (alt (mdNumeric y) (alt (ddd y) (md y)))
 
--- the place after an optional item
-abbrev pub placeAfter : {A : Type 0} → ℕ → Found A → ℕ
-placeAfter at (got a n) = n
-placeAfter at no = at
-placeAfter at (stop r) = at
-
 -- the paper's number, the record if there is one, and the count
 abbrev pub dateTold : DateAnswer → Told Date
 dateTold (Record d n) = recorded d n

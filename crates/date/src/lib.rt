@@ -4,9 +4,9 @@ ghost use mathlib.Core.Path.{_≡_};
 ghost use mathlib.Core.Bool.{true};
 ghost use Rattle.parser.specs.Reading.{alt, Says};
 ghost use Rattle.parser.specs.Answer.{Begins, Ended, Rest};
-ghost use Rattle.parser.specs.Read.{markFound, markMore, numberFound, numberMore};
+ghost use Rattle.parser.specs.Read.{markFound, markMore, numberFound, numberMore, placeAfter};
 ghost use Rattle.date.specs.Rules.{digitsOfYear, year, dash, weekOfYear, week, dayOfWeek, weekAndDay, mdNumeric, dayOfYear, ordinal, dayOfMonth, monthAndDay, date};
-ghost use Rattle.date.specs.Answer.{yearFound, yearMore, dayFound, dayMore, dateFound, dateMore, placeAfter, dateTold, afterYear};
+ghost use Rattle.date.specs.Answer.{yearFound, yearMore, dayFound, dayMore, dateFound, dateMore, dateTold, afterYear};
 use parser::Mark;
 use parser::Number;
 use parser::Signed;
@@ -62,12 +62,7 @@ fn date_sep(s: &[u8], at: usize) -> Mark
 fn past_sep(s: &[u8], at: usize) -> usize
     ensures { λ r. ⌜ r ≡ placeAfter at (dash .reads (now (s .entry)) at) ⌝ }
 {
-    let mark = date_sep(s, at);
-    match mark {
-        Mark::Got { next } => next,
-        Mark::Wrong => at,
-        Mark::Cut => at,
-    }
+    parser::past(s, at, 45)
 }
 
 // YYYY

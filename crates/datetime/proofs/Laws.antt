@@ -9,7 +9,7 @@ use Rattle.parser.proofs.Leaves.{Byte, DigitByte, lit-starts, lit-hopeful, lit-
 use Rattle.time.specs.Rules.{baseTime}
 use Rattle.time.proofs.Laws.{base-time-stable, base-time-bounded, base-time-starts, base-time-hopeful}
 use Rattle.date.specs.Rules.{date}
-use Rattle.date.proofs.General.{map-starts, definite-keeps-any, then-starts-hopeful}
+use Rattle.parser.proofs.General.{map-starts, definite-keeps-any, then-starts-hopeful}
 use Rattle.date.proofs.Laws.{date-stable, date-bounded, date-foreign, date-fails, date-hopeful}
 use Rattle.datetime.specs.Rules.{stamp, timeOf, afterDate, dateTime}
 

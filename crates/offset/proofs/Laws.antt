@@ -19,7 +19,8 @@ use Rattle.parser.proofs.Places.{no≢got, Bounded, Fails, Skips, lit-bounded, 
 use Rattle.parser.proofs.Leaves.{From, preceded-stable, preceded-bounded, preceded-hopeful, above-zero, signed-stable, signed-bounded, signed-fails, signed-at-end, signed-starts, field-hopeful-in, field-starts, field-definite, lit-hopeful, preceded-fails}
 use Rattle.parser.proofs.Says.{says-alt-no, says-map}
 use Rattle.parser.proofs.Hopeful.{Anything, AnyByte, Hopeful, Starts, Ends, Keeps, at-end-definite, definite-keeps, map-hopeful, verify-hopeful, opt-hopeful, alt-hopeful, seq-hopeful, starts-hopeful, hopeful-weaken, starts-weaken, ends-then-skips, ends-then-starts}
-use Rattle.offset.specs.Rules.{orZero, allowed, offsetMinute, offsetHour, offsetZulu, offset}
+use Rattle.offset.specs.Rules.{allowed, offsetMinute, offsetHour, offsetZulu, offset}
+use Rattle.parser.specs.Fields.{orZero}
 
 -- another byte than c
 lit-other : (c : ℕ) (s : List ℕ) (at : ℕ) → eqb (getD s at 0) c ≡ false → lit c .reads s at ≡ no

@@ -1,17 +1,11 @@
 -- Document 01's rule of offsets.
 use Prim.Native.Nat.{ℕ}
 use mathlib.Core.Bool.{Bool, true, false, not}
-use mathlib.Core.Option.{Option, some, none}
 use lib.Dec.{eqb}
 use Rattle.types.specs.declared.Offset.{Offset}
 use Rattle.types.specs.Sums.{signedOffset, zeroOffset}
 use Rattle.parser.specs.Reading.{Reader, and, lit, seq, opt, alt, verify, map}
-use Rattle.parser.specs.Fields.{hour, minute, signed, precededBy}
-
--- "Absent fields are 0."
-abbrev pub orZero : Option ℕ → ℕ
-orZero none = 0
-orZero (some n) = n
+use Rattle.parser.specs.Fields.{hour, minute, signed, precededBy, orZero}
 
 -- "Minus with hour 0 and minute 0 or absent is refused."
 abbrev pub allowed : Bool → ℕ → ℕ → Bool

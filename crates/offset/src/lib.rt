@@ -83,12 +83,8 @@ fn offset_minute(s: &[u8], at: usize, minus: bool, hour: u32) -> OffsetFound
     requires { ⌜ hour ≤ 23 ⌝ }
     ensures { λ r. ⌜ Says (offsetMinute minus hour) (now (s .entry)) at (offsetFound r) (offsetMore r) ⌝ }
 {
-    let minute = parser::after_colon(s, at, 59);
-    match minute {
-        Number::Got { value, next } => signed_offset(minus, hour, value, next, false),
-        Number::Wrong => signed_offset(minus, hour, 0, at, false),
-        Number::Cut => signed_offset(minus, hour, 0, at, true),
-    }
+    let minute = parser::or_left_out(at, parser::after_colon(s, at, 59));
+    signed_offset(minus, hour, minute.value, minute.next, minute.more)
 }
 
 // (+|-)HH[[:]MM]

@@ -8,3 +8,4 @@ pub mod RunLeaves
 pub mod Verdict
 pub mod Alike
 pub mod Says
+pub mod General

@@ -1,6 +1,7 @@
 -- The fields by their names in the paper, and the sign.
 use Prim.Native.Nat.{ℕ}
 use mathlib.Core.Bool.{Bool, true, false}
+use mathlib.Core.Option.{Option, some, none}
 use Rattle.parser.specs.Reading.{Reader, lit, seq, opt, alt, map}
 use Rattle.parser.specs.Digits.{field}
 
@@ -30,3 +31,8 @@ either c d = alt (lit c) (lit d)
 -- a reader with an optional byte c in front
 abbrev pub precededBy : {A : Type 0} → ℕ → Reader A → Reader A
 precededBy c p = seq (opt (lit c)) (λ _. p)
+
+-- "Absent fields are 0."
+abbrev pub orZero : Option ℕ → ℕ
+orZero none = 0
+orZero (some n) = n

@@ -6,6 +6,7 @@ use Rattle.parser.specs.declared.Mark.{Mark}
 use Rattle.parser.specs.declared.Mark.the-variants as mark
 use Rattle.parser.specs.declared.Number.{Number}
 use Rattle.parser.specs.declared.Number.the-variants as number
+use Rattle.parser.specs.declared.Part.{Part}
 use Rattle.parser.specs.declared.Signed.{Signed}
 use Rattle.parser.specs.declared.Signed.the-variants as sign
 use Rattle.parser.specs.declared.Run.{Run}
@@ -57,6 +58,18 @@ runMore (run.Got v n m) = m
 runMore run.TooBig = false
 runMore run.Wrong = false
 runMore run.Cut = true
+
+-- the place after an optional item
+abbrev pub placeAfter : {A : Type 0} → ℕ → Found A → ℕ
+placeAfter at (got a n) = n
+placeAfter at no = at
+placeAfter at (stop r) = at
+
+-- an optional number: it, or 0 where it is left out
+abbrev pub orLeftOut : ℕ → Number → Part
+orLeftOut at (number.Got v n) = record { value = v; next = n; more = false }
+orLeftOut at number.Wrong = record { value = 0; next = at; more = false }
+orLeftOut at number.Cut = record { value = 0; next = at; more = true }
 
 -- a run of one digit or more, or of none, that the end of the input ends, or another byte
 abbrev pub foundRun : Bool → Bool → ℕ → ℕ → Run

@@ -8,7 +8,7 @@ ghost use Rattle.parser.specs.Reading.{lit, or, Says};
 ghost use Rattle.parser.specs.Digits.{field, run, fraction, reach, lowest, highest, runAt, numberFrom};
 ghost use Rattle.parser.specs.Fields.{either, precededBy, month, day, hour, minute, second, signed};
 ghost use Rattle.parser.specs.Answer.{verdictOf};
-ghost use Rattle.parser.specs.Read.{cutField, markFound, markMore, numberFound, numberMore, signFound, signMore, foundRun, runFound, runMore};
+ghost use Rattle.parser.specs.Read.{placeAfter, orLeftOut, cutField, markFound, markMore, numberFound, numberMore, signFound, signMore, foundRun, runFound, runMore};
 use types::Verdict;
 
 // What a single byte finds: it, something else, or the end of the input.
@@ -23,6 +23,13 @@ pub enum Number {
     Got { value: u32, next: usize },
     Wrong,
     Cut,
+}
+
+// What an optional number finds. `more`: the input ended where it could still be written.
+pub struct Part {
+    pub value: u32,
+    pub next: usize,
+    pub more: bool,
 }
 
 pub enum Signed {
@@ -119,7 +126,7 @@ pub fn take_digits_in_range(s: &[u8], at: usize, places: usize, lo: u32, hi: u32
         if 57 < b {
             return Number::Wrong;
         }
-        value = value * 10 + ((b - 48) as u64);
+        value = value * 10 + ((b as u64) - 48);
         if top < value {
             return Number::Wrong;
         }
@@ -240,15 +247,45 @@ pub fn sign(s: &[u8], at: usize) -> Signed
     }
 }
 
+// The place after the byte `c`, where it stands at `at`; else `at` itself.
+pub fn past(s: &[u8], at: usize, c: u8) -> usize
+    ensures { λ r. ⌜ r ≡ placeAfter at (lit c .reads (now (s .entry)) at) ⌝ }
+{
+    if at < s.len() {
+        if s[at] == c {
+            return at + 1;
+        }
+    }
+    at
+}
+
 // [:]NN, from 00 to `hi`.
 pub fn after_colon(s: &[u8], at: usize, hi: u32) -> Number
     ensures { λ r. ⌜ Says (precededBy 58 (field 2 0 hi)) (now (s .entry)) at (numberFound r) (numberMore r) ⌝ }
 {
-    let mark = literal(s, at, 58);
-    match mark {
-        Mark::Got { next } => take_digits_in_range(s, next, 2, 0, hi),
-        Mark::Wrong => take_digits_in_range(s, at, 2, 0, hi),
-        Mark::Cut => Number::Cut,
+    take_digits_in_range(s, past(s, at, 58), 2, 0, hi)
+}
+
+// An optional number, tried at `at`: 0 where it is left out.
+pub fn or_left_out(at: usize, found: Number) -> Part
+    ensures { λ r. ⌜ r ≡ orLeftOut at found ⌝ }
+{
+    match found {
+        Number::Got { value, next } => Part {
+            value,
+            next,
+            more: false,
+        },
+        Number::Wrong => Part {
+            value: 0,
+            next: at,
+            more: false,
+        },
+        Number::Cut => Part {
+            value: 0,
+            next: at,
+            more: true,
+        },
     }
 }
 

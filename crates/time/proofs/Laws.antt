@@ -15,7 +15,9 @@ use Rattle.parser.proofs.Places.{Bounded, Fails, Skips, lit-bounded, alt-bounde
 use Rattle.parser.proofs.Hopeful.{Anything, AnyByte, Hopeful, Starts, Ends, AtEnd, at-end-definite, definite-keeps, map-hopeful, opt-hopeful, seq-hopeful, starts-hopeful, hopeful-weaken, ends-weaken, ends-alt, ends-then-skips, ends-then-starts, left-out-hopeful}
 use Rattle.parser.proofs.Leaves.{From, DigitByte, Byte, alt-at-end, lit-at-end, lit-starts, digit-is-not, field-hopeful, field-starts, preceded-stable, preceded-bounded, preceded-fails, preceded-hopeful}
 use Rattle.parser.proofs.RunLeaves.{fraction-hopeful, fraction-starts}
-use Rattle.offset.specs.Rules.{orZero, offset}
+use Rattle.offset.specs.Rules.{offset}
+use Rattle.parser.specs.Fields.{orZero}
+use Rattle.parser.proofs.General.{Eager, field-eager, seq-eager}
 use Rattle.offset.proofs.Laws.{offset-stable, offset-bounded, offset-fails, offset-hopeful}
 use Rattle.time.specs.Rules.{Clock, clockOf, millisecond, secondMillisecond, minuteSecondMillisecond, orMidnight, timeOf, timeOffset, afterHour, baseTime, time}
 
@@ -152,6 +154,11 @@ base-time-bounded = seq-bounded hour afterHour (field-bounded 2 0 23) after-boun
 pub base-time-fails : Fails baseTime
 unfolding baseTime
 base-time-fails = seq-fails hour afterHour (field-fails 2 0 23 (omega arith))
+
+-- an hour can follow wherever the input ends
+pub base-time-eager : Eager baseTime
+unfolding baseTime reach highest lowest
+base-time-eager = seq-eager hour afterHour (field-eager 2 0 23 (omega arith) refl)
 
 -- two digits are a time
 pub base-time-starts : Starts 2 DigitByte Anything baseTime

@@ -8,7 +8,8 @@ use Rattle.types.specs.declared.TimeOffset.the-variants.{Absent, Given}
 use Rattle.parser.specs.Reading.{Reader, seq, opt, map}
 use Rattle.parser.specs.Digits.{fraction}
 use Rattle.parser.specs.Fields.{hour, minute, second, either, precededBy}
-use Rattle.offset.specs.Rules.{orZero, offset}
+use Rattle.offset.specs.Rules.{offset}
+use Rattle.parser.specs.Fields.{orZero}
 
 pub record Clock : Type 0 where
   pub minute : ℕ

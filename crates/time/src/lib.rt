@@ -4,7 +4,7 @@ ghost use mathlib.Core.Option.{none};
 ghost use Rattle.parser.specs.Reading.{Says, SaysOn, got};
 ghost use Rattle.parser.specs.Answer.{Begins, Ended, Rest, refused, ended};
 ghost use Rattle.time.specs.Rules.{clockOf, timeOf, millisecond, secondMillisecond, minuteSecondMillisecond, timeOffset, afterHour, baseTime, time};
-ghost use Rattle.time.specs.Answer.{clockFound, clockMore, timeFound, timeMore, timeTold};
+ghost use Rattle.time.specs.Answer.{clockFound, clockMore, midnightAt, orLeftOut, timeFound, timeMore, timeTold};
 use offset::OffsetFound;
 use parser::Mark;
 use parser::Number;
@@ -99,12 +99,8 @@ fn time_millisecond(s: &[u8], at: usize, minute: u32, second: u32, more: bool) -
 fn time_second_millisecond(s: &[u8], at: usize, minute: u32) -> ClockFound
     ensures { λ r. ⌜ Says (secondMillisecond minute) (now (s .entry)) at (clockFound r) (clockMore r) ⌝ }
 {
-    let second = parser::after_colon(s, at, 60);
-    match second {
-        Number::Got { value, next } => time_millisecond(s, next, minute, value, false),
-        Number::Wrong => time_millisecond(s, at, minute, 0, false),
-        Number::Cut => time_millisecond(s, at, minute, 0, true),
-    }
+    let second = parser::or_left_out(at, parser::after_colon(s, at, 60));
+    time_millisecond(s, second.next, minute, second.value, second.more)
 }
 
 // [:]MM[[:]SS][(,|.)(m*)]
@@ -179,22 +175,63 @@ fn no_offset(
     }
 }
 
-// What follows the hour.
-fn time_after_hour(s: &[u8], at: usize, hour: u32) -> TimeFound
-    ensures { λ r. ⌜ Says (afterHour hour) (now (s .entry)) at (timeFound r) (timeMore r) ⌝ }
+// Minute, second and fraction, each 0 where they are left out.
+struct ClockPart {
+    minute: u32,
+    second: u32,
+    nanosecond: u32,
+    next: usize,
+    more: bool,
+}
+
+fn or_midnight(at: usize, found: ClockFound) -> ClockPart
+    ensures { λ r. ⌜ r ≡ orLeftOut at found ⌝ }
 {
-    let clock = time_minute_second_millisecond(s, at);
-    match clock {
+    match found {
         ClockFound::Got {
             minute,
             second,
             nanosecond,
             next,
             more,
-        } => time_offset(s, next, hour, minute, second, nanosecond, more),
-        ClockFound::Wrong => time_offset(s, at, hour, 0, 0, 0, false),
-        ClockFound::Cut => time_offset(s, at, hour, 0, 0, 0, true),
+        } => ClockPart {
+            minute,
+            second,
+            nanosecond,
+            next,
+            more,
+        },
+        ClockFound::Wrong => midnight(at, false),
+        ClockFound::Cut => midnight(at, true),
     }
+}
+
+fn midnight(next: usize, more: bool) -> ClockPart
+    ensures { λ r. ⌜ r ≡ midnightAt next more ⌝ }
+{
+    ClockPart {
+        minute: 0,
+        second: 0,
+        nanosecond: 0,
+        next,
+        more,
+    }
+}
+
+// What follows the hour.
+fn time_after_hour(s: &[u8], at: usize, hour: u32) -> TimeFound
+    ensures { λ r. ⌜ Says (afterHour hour) (now (s .entry)) at (timeFound r) (timeMore r) ⌝ }
+{
+    let clock = or_midnight(at, time_minute_second_millisecond(s, at));
+    time_offset(
+        s,
+        clock.next,
+        hour,
+        clock.minute,
+        clock.second,
+        clock.nanosecond,
+        clock.more,
+    )
 }
 
 // HH[[:]MM[[:]SS][(,|.)(m*)]][(Z|+...|-...)]
@@ -213,12 +250,7 @@ pub fn base_time(s: &[u8], at: usize) -> TimeFound
 pub fn time_at(s: &[u8], at: usize) -> TimeFound
     ensures { λ r. ⌜ Says time (now (s .entry)) at (timeFound r) (timeMore r) ⌝ }
 {
-    let mark = parser::literal(s, at, 84);
-    match mark {
-        Mark::Got { next } => base_time(s, next),
-        Mark::Wrong => base_time(s, at),
-        Mark::Cut => TimeFound::Cut,
-    }
+    base_time(s, parser::past(s, at, 84))
 }
 
 // Reads the time that the bytes begin with.

@@ -8,9 +8,9 @@ use Rattle.parser.specs.Reading.{Found, Says, lit, opt, lack, mapFound}
 use Rattle.parser.specs.Digits.{reach, lowest, highest}
 use Rattle.parser.specs.Fields.{day, precededBy}
 use Rattle.date.specs.Rules.{orFirst, dayOfMonth}
-use Rattle.date.specs.Answer.{placeAfter}
+use Rattle.parser.specs.Read.{placeAfter}
 use Rattle.parser.proofs.Says.{says-map, says-opt}
-use Rattle.date.proofs.General.{field-eager, says-past}
+use Rattle.parser.proofs.General.{field-eager, says-past}
 use borrow.Author.Needs.{needs}
 use Rattle.date.proofs.day_of_month.Statement.{statement}
 use Rattle.date.proofs.day_of_month.Tie as tie

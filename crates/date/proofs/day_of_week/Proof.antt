@@ -9,9 +9,9 @@ use Rattle.parser.specs.Reading.{Found, Says, lit, opt, lack, verify, keep, map
 use Rattle.parser.specs.Digits.{field, reach, lowest, highest}
 use Rattle.parser.specs.Fields.{precededBy}
 use Rattle.date.specs.Rules.{orFirst, oneToSeven, dayOfWeek}
-use Rattle.date.specs.Answer.{placeAfter}
+use Rattle.parser.specs.Read.{placeAfter}
 use Rattle.parser.proofs.Says.{says-map, says-verify, says-opt}
-use Rattle.date.proofs.General.{field-eager, says-past}
+use Rattle.parser.proofs.General.{field-eager, says-past}
 use borrow.Author.Needs.{needs}
 use Rattle.date.proofs.day_of_week.Statement.{statement}
 use Rattle.date.proofs.day_of_week.Tie as tie

@@ -2,17 +2,15 @@
 use Prim.Native.Nat.{ℕ, _≤_}
 use mathlib.Core.List.{List}
 use mathlib.Core.Bool.{Bool, true, false}
-use mathlib.Core.Option.{Option, some, none}
+use mathlib.Core.Option.{Option}
 use mathlib.Core.Path.{_≡_, refl, sym, _∙_}
-use native.Mathlib.Omega.{arith}
 use Rattle.types.specs.declared.Offset.{Offset}
 use Rattle.types.specs.Sums.{signedOffset}
 use Rattle.parser.specs.Reading.{Says, got, no, pick, opt, verify, map, mapFound}
-use Rattle.parser.specs.Digits.{field}
-use Rattle.parser.specs.Fields.{minute, precededBy}
+use Rattle.parser.specs.Fields.{minute, precededBy, orZero}
 use Rattle.parser.proofs.Leaves.{preceded-within}
-use Rattle.parser.proofs.Says.{says-map, says-verify, says-opt}
-use Rattle.offset.specs.Rules.{offsetMinute, allowed, orZero}
+use Rattle.parser.proofs.Says.{says-map, says-verify, left-out, left-out-within}
+use Rattle.offset.specs.Rules.{offsetMinute, allowed}
 use Rattle.offset.specs.declared.OffsetFound.{OffsetFound}
 use Rattle.offset.specs.Answer.{offsetFound, offsetMore}
 use borrow.Author.Needs.{needs}
@@ -40,55 +38,20 @@ module _ (minus : Bool) (h : ℕ) (s : List ℕ) (at : ℕ) where
 after-colon-requires : tie.Need-after-colon-requires
 after-colon-requires c κs = search needs
 
-enum-known-minute : tie.Need-enum-known-minute
-enum-known-minute c = search needs
+or-left-out-requires : tie.Need-or-left-out-requires
+or-left-out-requires c κs = search needs
 
 signed-offset-requires : tie.Need-signed-offset-requires
 signed-offset-requires c κs =
-    let colon = rw (c .before .minute .given .1) at (c .before .before .before .after-colon .ensures) in
-    (c .before .before .before .before .before .pre, preceded-within 58 2 0 59 _ _ _ _ (sym (colon .found)) .1)
-
-enum-told : tie.Need-enum-told
-enum-told c = search needs
-
-signed-offset-requires-2 : tie.Need-signed-offset-requires-2
-signed-offset-requires-2 c κs = search needs
-
-enum-told-2 : tie.Need-enum-told-2
-enum-told-2 c = search needs
-
-signed-offset-requires-3 : tie.Need-signed-offset-requires-3
-signed-offset-requires-3 c κs = search needs
+    let x = c .before .after-colon in
+    (c .before .before .before .pre, rw (c .or-left-out .ensures) (left-out-within 59 _ (x .result) (λ v n e. preceded-within 58 2 0 59 _ _ v n (sym (sym e ∙ x .ensures .found)) .1)))
 
 returns : tie.Need-returns
 returns c =
-    let a = c .before .before .before .before .before .before .args in
-    let colon = rw (c .before .before .minute .given .1) at (c .before .before .before .before .after-colon .ensures) in
-    made (a .minus) (a .hour) (a .s .now) (a .at) (some _) _ false (c .signed-offset .result) (says-opt (precededBy 58 minute) (a .s .now) (a .at) _ _ colon) (c .signed-offset .ensures .0) (c .signed-offset .ensures .1)
-
-returns-2 : tie.Need-returns-2
-returns-2 c =
-    let a = c .before .before .before .before .before .args in
-    let colon = rw (c .before .enum-told .given .1) at (c .before .before .before .after-colon .ensures) in
-    made (a .minus) (a .hour) (a .s .now) (a .at) none (a .at) false (c .signed-offset2 .result) (says-opt (precededBy 58 minute) (a .s .now) (a .at) _ _ colon) (c .signed-offset2 .ensures .0) (c .signed-offset2 .ensures .1)
-
-returns-3 : tie.Need-returns-3
-returns-3 c =
-    let a = c .before .before .before .before .before .args in
-    let colon = rw (c .before .enum-told2 .given .1) at (c .before .before .before .after-colon .ensures) in
-    made (a .minus) (a .hour) (a .s .now) (a .at) none (a .at) true (c .signed-offset3 .result) (says-opt (precededBy 58 minute) (a .s .now) (a .at) _ _ colon) (c .signed-offset3 .ensures .0) (c .signed-offset3 .ensures .1)
+    let a = c .before .before .before .before .args in
+    let part = rw (← c .before .or-left-out .ensures) at (left-out (precededBy 58 minute) (a .s .now) (a .at) (c .before .before .after-colon .result) (c .before .before .after-colon .ensures)) in
+    made (a .minus) (a .hour) (a .s .now) (a .at) (part .what) _ _ (c .signed-offset .result) (part .says) (rw (← part .value) (c .signed-offset .ensures .0)) (c .signed-offset .ensures .1)
 
 pub offset-minute-spec : {M : Type 1} → statement M
 offset-minute-spec =
-    tie.close
-    (tie.spec
-    after-colon-requires
-    enum-known-minute
-    signed-offset-requires
-    enum-told
-    signed-offset-requires-2
-    enum-told-2
-    signed-offset-requires-3
-    returns
-    returns-2
-    returns-3)
+    tie.close (tie.spec after-colon-requires or-left-out-requires signed-offset-requires returns)

@@ -95,6 +95,9 @@ mul-value c = omega arith
 cast-value : tie.Need-cast-value Inv-loop μ-loop
 cast-value c = omega arith
 
+sub-value : tie.Need-sub-value Inv-loop μ-loop
+sub-value c = omega arith
+
 add-value : tie.Need-add-value Inv-loop μ-loop
 add-value c = omega arith
 
@@ -125,8 +128,8 @@ returns-5 c =
     let l = c .before .before .loop in
     below (a .lo) (a .hi) (a .places) (a .s .now) (a .at) (l .value) (l .next) (l .left) (l .inv) (omega arith) (omega arith)
 
-cast-t19 : tie.Need-cast-t19 Inv-loop μ-loop
-cast-t19 c = omega arith
+cast-t20 : tie.Need-cast-t20 Inv-loop μ-loop
+cast-t20 c = omega arith
 
 returns-6 : tie.Need-returns-6 Inv-loop μ-loop
 returns-6 c =
@@ -148,6 +151,7 @@ take-digits-in-range-spec =
     returns-3
     mul-value
     cast-value
+    sub-value
     add-value
     returns-4
     add-next
@@ -155,5 +159,5 @@ take-digits-in-range-spec =
     loop-less
     loop-again
     returns-5
-    cast-t19
+    cast-t20
     returns-6)

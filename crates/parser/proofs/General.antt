@@ -7,15 +7,15 @@ use native.Mathlib.Omega.{arith}
 use lib.ListN.{length, getD}
 use lib.Dec.{ltb, eqb}
 use borrow.Author.Tests.{ltb-false, le-ltb}
 use Rattle.parser.specs.Reading.{Found, no, got, stop, Reader, lit, seq, opt, alt, verify, map, or, and, orElse, failed, Says}
 use Rattle.parser.specs.Digits.{isDigit, digit, digitsFrom, field, reach}
 use Rattle.parser.specs.Fields.{precededBy}
-use Rattle.date.specs.Answer.{placeAfter}
+use Rattle.parser.specs.Read.{placeAfter}
 use Rattle.parser.proofs.Fields.{OtherAt, digitsFrom-other, digitsMore-other, digitsMore-end}
 use Rattle.parser.proofs.Stable.{Stable, lit-stable, verify-stable, map-stable, opt-stable, seq-stable, alt-stable, field-stable}
 use Rattle.parser.proofs.Places.{Bounded, Foreign, Skips, lit-bounded, seq-bounded, opt-bounded, alt-bounded, verify-bounded, map-bounded, field-bounded, lit-foreign, seq-foreign, opt-foreign, alt-foreign, verify-foreign, map-foreign, field-foreign}
 use Rattle.parser.proofs.Hopeful.{Hopeful, Starts, Keeps, Definite, definite-keeps, ends-map, ends-then-starts, ends-then-skips, seq-hopeful}
 use Rattle.parser.proofs.Leaves.{lit-definite}
 
 -- ---- open at the end of every input
 
