@@ -1,0 +1,4 @@
+pub mod Text
+pub mod Records
+pub mod Line
+pub mod Stream
