@@ -1,6 +1,1 @@
-pub mod Laws
-pub mod Decimals
-pub mod Sizes
-pub mod Answers
-pub mod Asked
 pub mod Short

@@ -21,11 +21,11 @@ use Rattle.types.specs.declared.DateTime.{DateTime}
 use Rattle.types.specs.declared.Duration.{Duration}
 use Rattle.types.specs.Sums.{minutesInAll, secondsOf}
 use Rattle.parser.specs.Reading.{Reader, pick}
-use Rattle.answers.specs.Text.{decimal, decimalOf, signed}
-use Rattle.answers.specs.Records.{offsetWords, timeOffsetWords, timeWords, dateWords, dateTimeWords, durationWords}
-use Rattle.answers.specs.Line.{verdictWord, headWords, recordWords, Answered, Gives, Asked, dateText, timeText, offsetText, dateTimeText, durationText, unknown, askedBy, Answers, AnswersLine}
+use Rattle.words.specs.Text.{decimal, decimalOf, signed}
+use Rattle.words.specs.Records.{offsetWords, timeOffsetWords, timeWords, dateWords, dateTimeWords, durationWords}
+use Rattle.words.specs.Line.{verdictWord, headWords, recordWords, Answered, Gives, Asked, dateText, timeText, offsetText, dateTimeText, durationText, unknown, askedBy, Answers, AnswersLine}
 use Rattle.answers.specs.Stream.{Added}
-use Rattle.answers.proofs.Laws.{puts-fits}
+use Rattle.words.proofs.Laws.{puts-fits}
 
 digits-short : (k n : ℕ) → length (decimalOf k n) ≤ k
 unfolding decimalOf

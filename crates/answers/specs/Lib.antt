@@ -1,4 +1,1 @@
-pub mod Text
-pub mod Records
-pub mod Line
 pub mod Stream

@@ -4,18 +4,13 @@
 //     B COUNT VERDICT W WCOUNT RECORD
 //
 // What has arrived is answered before the program waits for more.
-mod answer;
-mod kinds;
-mod records;
-mod text;
-
 ghost use Prim.Native.Nat.{_+_, _≤_, _<_};
 ghost use lib.ListN.{length};
 ghost use Rattle.answers.specs.Stream.{heldIn, Added};
-use crate::answer::answer_line;
 use libc::STDIN_FILENO;
 use libc::STDOUT_FILENO;
 use lines::Ended;
+use words::answer::answer_line;
 
 // A line is known from its letter, its space, its 200 bytes, and one byte more, which shows a longer line.
 const LIMIT: usize = 203;

@@ -1,0 +1,3 @@
+pub mod Stores
+pub mod Laws
+pub mod Once

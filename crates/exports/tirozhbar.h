@@ -1,0 +1,129 @@
+/* tirozhbar.h: ISO 8601 offsets, times, dates, date-times and durations, read from bytes.
+ *
+ * Link with libexports.a, which `rt staticlib exports` writes. The code is proved to do what is said here on every input: it reads the
+ * LENGTH bytes at TEXT and writes at most the slots that its kind has. It keeps no state and calls nothing.
+ *
+ * A reader fills an array of ROOM slots and returns a number:
+ *
+ *     TIROZHBAR_RECORD     0  a record
+ *     TIROZHBAR_NO_FORM    1  the bytes begin with no such form
+ *     TIROZHBAR_TOO_BIG    2  a number of a duration is above 4294967295
+ *     TIROZHBAR_LEFT_OVER  3  tirozhbar_parse_* alone: a record, but bytes are left over
+ *     TIROZHBAR_TOO_FEW  255  ROOM is below the kind's number of slots; nothing was written
+ *
+ * Slot 0 holds the bytes that the record takes (0 after 1 and 2, the form's bytes after 3). Slot 1 holds the verdict:
+ *
+ *     TIROZHBAR_SETTLED    0  every longer text gets the same answer
+ *     TIROZHBAR_OPEN       1  some longer text gets another
+ *     TIROZHBAR_NO_VERDICT -1 always, after tirozhbar_parse_*
+ *
+ * The record stands from slot 2 on. After anything but 0 the slots from 2 on are left as they were, and so always are the slots past
+ * the kind's number.
+ */
+#ifndef TIROZHBAR_H
+#define TIROZHBAR_H
+
+#include <stddef.h>
+#include <stdint.h>
+
+#ifdef __cplusplus
+extern "C" {
+#endif
+
+enum {
+    TIROZHBAR_RECORD = 0,
+    TIROZHBAR_NO_FORM = 1,
+    TIROZHBAR_TOO_BIG = 2,
+    TIROZHBAR_LEFT_OVER = 3,
+    TIROZHBAR_TOO_FEW = 255
+};
+
+enum { TIROZHBAR_SETTLED = 0, TIROZHBAR_OPEN = 1, TIROZHBAR_NO_VERDICT = -1 };
+
+/* The slots of every kind. */
+enum { TIROZHBAR_COUNT = 0, TIROZHBAR_VERDICT = 1 };
+
+/* An offset from UTC. Hours and minutes carry the same sign, or are zero: -00:30 is 0 and -30. */
+enum { TIROZHBAR_OFFSET_HOURS = 2, TIROZHBAR_OFFSET_MINUTES = 3, TIROZHBAR_OFFSET_SLOTS = 4 };
+
+/* A time. Without an offset the last three slots are 0; with one, GIVEN is 1. */
+enum {
+    TIROZHBAR_TIME_HOUR = 2,
+    TIROZHBAR_TIME_MINUTE = 3,
+    TIROZHBAR_TIME_SECOND = 4,
+    TIROZHBAR_TIME_NANOSECOND = 5,
+    TIROZHBAR_TIME_OFFSET_GIVEN = 6,
+    TIROZHBAR_TIME_OFFSET_HOURS = 7,
+    TIROZHBAR_TIME_OFFSET_MINUTES = 8,
+    TIROZHBAR_TIME_SLOTS = 9
+};
+
+/* A date: FORM says which of the three it is. PART is the month of a calendar date, the week of a week date, and 0 of an ordinal
+ * date, whose DAY is the day of the year. */
+enum { TIROZHBAR_CALENDAR = 0, TIROZHBAR_WEEK = 1, TIROZHBAR_ORDINAL = 2 };
+enum {
+    TIROZHBAR_DATE_FORM = 2,
+    TIROZHBAR_DATE_YEAR = 3,
+    TIROZHBAR_DATE_PART = 4,
+    TIROZHBAR_DATE_DAY = 5,
+    TIROZHBAR_DATE_SLOTS = 6
+};
+
+/* A date-time: the date's slots, and the time's four further on. */
+enum {
+    TIROZHBAR_DATETIME_FORM = 2,
+    TIROZHBAR_DATETIME_YEAR = 3,
+    TIROZHBAR_DATETIME_PART = 4,
+    TIROZHBAR_DATETIME_DAY = 5,
+    TIROZHBAR_DATETIME_HOUR = 6,
+    TIROZHBAR_DATETIME_MINUTE = 7,
+    TIROZHBAR_DATETIME_SECOND = 8,
+    TIROZHBAR_DATETIME_NANOSECOND = 9,
+    TIROZHBAR_DATETIME_OFFSET_GIVEN = 10,
+    TIROZHBAR_DATETIME_OFFSET_HOURS = 11,
+    TIROZHBAR_DATETIME_OFFSET_MINUTES = 12,
+    TIROZHBAR_DATETIME_SLOTS = 13
+};
+
+/* A duration. An absent part is 0. */
+enum {
+    TIROZHBAR_DURATION_YEARS = 2,
+    TIROZHBAR_DURATION_MONTHS = 3,
+    TIROZHBAR_DURATION_WEEKS = 4,
+    TIROZHBAR_DURATION_DAYS = 5,
+    TIROZHBAR_DURATION_HOURS = 6,
+    TIROZHBAR_DURATION_MINUTES = 7,
+    TIROZHBAR_DURATION_SECONDS = 8,
+    TIROZHBAR_DURATION_SLOTS = 9
+};
+
+/* The offset that the text begins with: Z, or a sign, hours and perhaps minutes. 4 slots. */
+uint32_t tirozhbar_offset(const uint8_t *text, size_t length, int64_t *slots, size_t room);
+/* A text that is one offset from its first byte to its last. 4 slots. */
+uint32_t tirozhbar_parse_offset(const uint8_t *text, size_t length, int64_t *slots, size_t room);
+
+/* The time that the text begins with: T21:56:42.123+01:00, or less of it. 9 slots. */
+uint32_t tirozhbar_time(const uint8_t *text, size_t length, int64_t *slots, size_t room);
+/* A text that is one time from its first byte to its last. 9 slots. */
+uint32_t tirozhbar_parse_time(const uint8_t *text, size_t length, int64_t *slots, size_t room);
+
+/* The date that the text begins with: 2015-11-02, 20151102, 2015-W45-1, 2015-306. 6 slots. */
+uint32_t tirozhbar_date(const uint8_t *text, size_t length, int64_t *slots, size_t room);
+/* A text that is one date from its first byte to its last. 6 slots. */
+uint32_t tirozhbar_parse_date(const uint8_t *text, size_t length, int64_t *slots, size_t room);
+
+/* The date-time that the text begins with: a date, T, a time. 13 slots. */
+uint32_t tirozhbar_datetime(const uint8_t *text, size_t length, int64_t *slots, size_t room);
+/* A text that is one date-time from its first byte to its last. 13 slots. */
+uint32_t tirozhbar_parse_datetime(const uint8_t *text, size_t length, int64_t *slots, size_t room);
+
+/* The duration that the text begins with: P1Y2M3DT4H5M6S, P5W. 9 slots. */
+uint32_t tirozhbar_duration(const uint8_t *text, size_t length, int64_t *slots, size_t room);
+/* A text that is one duration from its first byte to its last. 9 slots. */
+uint32_t tirozhbar_parse_duration(const uint8_t *text, size_t length, int64_t *slots, size_t room);
+
+#ifdef __cplusplus
+}
+#endif
+
+#endif
