@@ -8,9 +8,6 @@ use Rattle.words.specs.Text.{Puts}
 use Rattle.words.proofs.Laws.{puts-none, puts-more, puts-all}
 use Rattle.words.proofs.text.put.Statement.{statement}
 use Rattle.words.proofs.text.put.Tie as tie
-use Rattle.words.proofs.text.put.Reads as reads
-use Rattle.words.proofs.text.put.Lts as lts
-use Rattle.words.proofs.text.put_byte.Reads as put-byte-reads
 
 abbrev Inv-loop : tie.InvT-loop
 Inv-loop out₀ at word next₀ i₀ out next i = (i ≤ length word) × (length out ≡ length out₀) × Puts (take i word) out₀ at out next
