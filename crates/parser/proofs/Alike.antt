@@ -1,11 +1,10 @@
 -- Two readers that read alike; and a common beginning, which is read once for several alternatives.
-use Prim.Native.Nat.{ℕ, _≤_}
+use Prim.Native.Nat.{ℕ}
 use mathlib.Core.List.{List, _∷_, _++_}
 use mathlib.Core.Bool.{Bool, true, false}
-use mathlib.Core.Path.{_≡_, refl, sym, ap, _∙_}
-use lib.ListN.{length}
-use Rattle.parser.specs.Reading.{Found, no, got, stop, Reader, seq, then, after, alt, orElse, failed, or, and, Says}
-use Rattle.parser.proofs.Hopeful.{Ends, Hopeful}
+use mathlib.Core.Path.{_≡_, refl, sym, _∙_}
+use Rattle.parser.specs.Reading.{Found, no, got, stop, Reader, seq, alt, failed, or, and, Says}
+use Rattle.parser.proofs.Hopeful.{Hopeful}
 
 pub record AlikeAt {A : Type 0} (p q : Reader A) (s : List ℕ) (at : ℕ) : Type 0 where
   pub reads : p .reads s at ≡ q .reads s at

@@ -1,16 +1,16 @@
 -- Laws of digit fields: more digits never make a number smaller, and some n digits reach every number between the least and the greatest.
 use Prim.Native.Nat.{ℕ, zero, suc, _+_, _*_, _-_, _<_, _≤_}
-use mathlib.Core.List.{List, [], _∷_, _++_, append-assoc}
-use mathlib.Core.Bool.{Bool, true, false, not}
-use mathlib.Core.Path.{_≡_, refl, sym, ap, _∙_}
+use mathlib.Core.List.{List}
+use mathlib.Core.Bool.{Bool, true, false}
+use mathlib.Core.Path.{_≡_, refl, sym, _∙_}
 use mathlib.Core.Logic.{_⊎_, inl, inr}
 use native.Mathlib.Omega.{arith}
-use native.Mathlib.Numerals.{add-one, sub-one}
-use lib.ListN.{length, getD, length-append, List·getD-append}
-use lib.Dec.{ltb, leb, eqb}
-use borrow.Author.Tests.{ltb-true, ltb-false, leb-true, leb-false, lt-ltb, le-ltb, le-leb, lt-leb}
-use Rattle.parser.specs.Reading.{Found, no, got, stop, Reader, pick, and, within}
-use Rattle.parser.specs.Digits.{digit, isDigit, digitsFrom, digitsMore, lowest, highest, reach, field}
+use native.Mathlib.Numerals.{sub-one}
+use lib.ListN.{length, getD}
+use lib.Dec.{ltb, leb}
+use borrow.Author.Tests.{leb-true, leb-false, lt-ltb, le-leb, lt-leb}
+use Rattle.parser.specs.Reading.{no, pick, and}
+use Rattle.parser.specs.Digits.{isDigit, digitsFrom, digitsMore, lowest, highest, reach}
 
 pub true≢false : true ≡ false → ⊥
 true≢false e = let z : _≡_ {A = ℕ} 0 1 = cc in omega arith

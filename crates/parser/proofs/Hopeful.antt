@@ -1,15 +1,12 @@
 -- Where a byte more could matter, some few bytes more are read to the last one.
-use Prim.Native.Nat.{ℕ, zero, suc, _+_, _*_, _-_, _<_, _≤_}
-use mathlib.Core.List.{List, [], _∷_, _++_, append-assoc}
-use mathlib.Core.Bool.{Bool, true, false, not}
+use Prim.Native.Nat.{ℕ, suc, _+_, _≤_}
+use mathlib.Core.List.{List, _∷_, _++_, append-assoc}
+use mathlib.Core.Bool.{Bool, true, false}
 use mathlib.Core.Option.{Option, some, none}
-use mathlib.Core.Path.{_≡_, refl, sym, ap, _∙_}
+use mathlib.Core.Path.{_≡_, refl, sym, _∙_}
 use native.Mathlib.Omega.{arith}
-use lib.ListN.{length, getD, length-append}
-use lib.Seq.{getD-append-seam}
-use lib.Dec.{ltb, leb, eqb}
-use borrow.Author.Tests.{ltb-true, ltb-false, lt-ltb, eq-eqb, not-true}
-use Rattle.parser.specs.Reading.{Found, no, got, stop, Reader, lit, seq, then, after, opt, lack, alt, orElse, failed, verify, keep, map, mapFound, give, pick, or, and}
+use lib.ListN.{length, length-append}
+use Rattle.parser.specs.Reading.{Found, no, got, stop, Reader, seq, then, after, opt, lack, alt, failed, verify, map, mapFound, give, or, and}
 use Rattle.parser.proofs.Fields.{true≢false}
 use Rattle.parser.proofs.Stable.{Stable, opt-stable}
 use Rattle.parser.proofs.Places.{no≢got, stop≢got, Bounded, Fails, Skips, Foreign, opt-bounded, opt-foreign}

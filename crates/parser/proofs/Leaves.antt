@@ -1,23 +1,21 @@
 -- The hope of single bytes and fields: which bytes complete them.
 use Prim.Native.Nat.{ℕ, zero, suc, _+_, _*_, _-_, _<_, _≤_}
 use mathlib.Core.List.{List, [], _∷_, _++_, append-assoc, append-nil}
-use mathlib.Core.Bool.{Bool, true, false, not}
+use mathlib.Core.Bool.{Bool, true, false}
 use mathlib.Core.Path.{_≡_, refl, sym, ap, _∙_}
-use mathlib.Core.Logic.{_⊎_, inl, inr}
 use native.Mathlib.Omega.{arith}
 use native.Mathlib.Nat.{add-zero}
-use lib.ListN.{length, getD, drop, length-append, length-drop, List·getD-append}
-use lib.Seq.{getD-append-seam, drop-append-le, drop-length}
+use lib.ListN.{length, getD, length-append, List·getD-append}
+use lib.Seq.{getD-append-seam}
 use lib.Dec.{ltb, leb, eqb}
-use borrow.Author.Tests.{ltb-true, ltb-false, leb-true, leb-false, lt-ltb, le-ltb, le-leb, eq-eqb, ne-eqb, not-true}
-use Rattle.parser.specs.Reading.{Found, no, got, stop, Reader, lit, seq, then, opt, lack, alt, orElse, failed, map, mapFound, pick, or, and}
-use Rattle.parser.specs.Digits.{isDigit, digitsFrom, digitsMore, lowest, highest, reach, field, digits, number, numberFrom, runAt, ofRun, atTheEnd, limit, run, nanoseconds, fraction}
-use Rattle.parser.specs.Fields.{signed, precededBy}
-use Rattle.parser.proofs.Fields.{true≢false, and-first, and-second, DigitAt, digit-at, digitsFrom-suc, digitsMore-suc, digitsFrom-other, digitsMore-other, digitsFrom-end, digitsMore-end, lowest-grows, highest-grows}
-use Rattle.parser.proofs.Runs.{run-end, digits-short}
-use Rattle.parser.proofs.Stable.{Stable, digit-stays, lit-stable, opt-stable, alt-stable, map-stable, seq-stable, field-stable, run-stable}
-use Rattle.parser.proofs.Places.{no≢got, stop≢got, Bounded, Fails, Foreign, lit-fails, lit-bounded, lit-foreign, alt-fails, alt-bounded, alt-foreign, map-fails, map-bounded, map-foreign, opt-bounded, opt-foreign, seq-bounded, seq-foreign, field-fails, field-bounded, field-foreign, run-bounded, run-foreign}
-use Rattle.parser.proofs.Hopeful.{Ends, AnyByte, Anything, Hopeful, Starts, Keeps, Definite, AtEnd, at-end-definite, starts-hopeful, foreign-keeps, ends-after, ends-alt, ends-map, ends-then-starts, seq-hopeful, ends-weaken, left-out-starts, left-out-hopeful}
+use borrow.Author.Tests.{ltb-true, ltb-false, leb-true, leb-false, lt-ltb, le-leb, eq-eqb, ne-eqb, not-true}
+use Rattle.parser.specs.Reading.{no, got, Reader, lit, alt, failed, map, pick, or, and}
+use Rattle.parser.specs.Digits.{isDigit, digitsFrom, digitsMore, lowest, highest, reach, field}
+use Rattle.parser.specs.Fields.{signed}
+use Rattle.parser.proofs.Fields.{true≢false, and-first, and-second, DigitAt, digitsFrom-suc, highest-grows}
+use Rattle.parser.proofs.Stable.{Stable, digit-stays, lit-stable, alt-stable, map-stable}
+use Rattle.parser.proofs.Places.{no≢got, Bounded, Fails, Foreign, lit-fails, lit-bounded, lit-foreign, alt-fails, alt-bounded, alt-foreign, map-fails, map-bounded, map-foreign}
+use Rattle.parser.proofs.Hopeful.{Anything, Hopeful, Starts, Definite, AtEnd, at-end-definite, starts-hopeful, ends-alt, ends-map}
 
 -- ---- single bytes
 
@@ -258,42 +256,9 @@ pub field-within : (n lo hi : ℕ) (s : List ℕ) (at a m : ℕ) → field n lo 
 unfolding field
 field-within n lo hi s at a m e = digits-within lo hi n 0 s at a m e
 
--- an optional byte in front of a field, left out where the input ends
+-- a digit is no other byte
 pub digit-is-not : (c : ℕ) → isDigit c ≡ false → (b : ℕ) → DigitByte b → eqb b c ≡ false
 digit-is-not c h b d = ne-eqb b c (λ e. true≢false (sym d ∙ rw e h))
-
-pub preceded-stable : (c n lo hi : ℕ) → Stable (precededBy c (field n lo hi))
-preceded-stable c n lo hi = seq-stable (opt (lit c)) (λ _. field n lo hi) (opt-stable (lit c) (lit-stable c)) (λ _. field-stable n lo hi)
-
-pub preceded-bounded : (c n lo hi : ℕ) → Bounded (precededBy c (field n lo hi))
-preceded-bounded c n lo hi = seq-bounded (opt (lit c)) (λ _. field n lo hi) (opt-bounded (lit c) (lit-bounded c)) (λ _. field-bounded n lo hi)
-
-pub preceded-fails : (c n lo hi : ℕ) → 0 < n → Fails (precededBy c (field n lo hi))
-unfolding seq opt
-preceded-fails c n lo hi h s at e = rw (lit-fails c s at e, field-fails n lo hi h s at e)
-
-pub preceded-foreign : (X : ℕ → Type 0) (c n lo hi : ℕ) → ((b : ℕ) → X b → eqb b c ≡ false) → ((b : ℕ) → X b → isDigit b ≡ false) → Foreign X (precededBy c (field n lo hi))
-preceded-foreign X c n lo hi k d = seq-foreign X (opt (lit c)) (λ _. field n lo hi) (opt-bounded (lit c) (lit-bounded c)) (opt-foreign X (lit c) (lit-foreign X c k)) (λ _. field-foreign X n lo hi d)
-
-pub preceded-within : (c n lo hi : ℕ) (s : List ℕ) (at a m : ℕ) → precededBy c (field n lo hi) .reads s at ≡ got a m → From lo hi a
-unfolding seq opt
-preceded-within c n lo hi s at a m e = go (lit c .reads s at) e
-  where
-    go : (f : Found Unit) → then (lack at f) (λ _ k. field n lo hi .reads s k) ≡ got a m → From lo hi a
-    go no e = field-within n lo hi s at a m e
-    go (stop r) e = absurd (stop≢got e)
-    go (got u k) e = field-within n lo hi s k a m e
-
-module _ (c n lo hi lo′ hi′ : ℕ) (other : isDigit c ≡ false) (a : lo ≤ lo′) (b : hi′ ≤ hi) (ab : lo′ ≤ hi′) (r : reach lo′ hi′ (suc n) 0 ≡ true) where
-  pub preceded-starts : Starts (suc n) DigitByte (From lo′ hi′) (precededBy c (field (suc n) lo hi))
-  preceded-starts = left-out-starts DigitByte (lit c) (λ _. field (suc n) lo hi) (lit-fails c) (lit-foreign DigitByte c (digit-is-not c other)) (field-starts n lo hi lo′ hi′ a b ab r)
-
-  pub preceded-hopeful : Narrows lo hi lo′ hi′ → Hopeful (suc n) (From lo′ hi′) (precededBy c (field (suc n) lo hi))
-  preceded-hopeful k =
-      left-out-hopeful DigitByte (lit c) (λ _. field (suc n) lo hi) (lit-stable c) (lit-bounded c) (lit-at-end c) (lit-fails c)
-      (lit-foreign DigitByte c (digit-is-not c other))
-      (field-starts n lo hi lo′ hi′ a b ab r)
-      (λ _. field-hopeful-in (suc n) lo hi lo′ hi′ a b ab k)
 
 -- a range from 0 on is reached above 0 too: some digit that is still to come can be 1
 pub above-zero : (hi : ℕ) → 1 ≤ hi → Narrows 0 hi 1 hi

@@ -4,8 +4,11 @@ pub mod Stable
 pub mod Places
 pub mod Hopeful
 pub mod Leaves
+pub mod Preceded
 pub mod RunLeaves
 pub mod Verdict
 pub mod Alike
 pub mod Says
+pub mod Two
+pub mod Thousandths
 pub mod General

@@ -1,17 +1,17 @@
 -- Where a reading ends, what it finds at the end of the input, and what it makes of a byte that it never takes.
 use Prim.Native.Nat.{ℕ, zero, suc, _+_, _*_, _-_, _<_, _≤_}
 use mathlib.Core.List.{List, [], _∷_, _++_}
-use mathlib.Core.Bool.{Bool, true, false, not}
-use mathlib.Core.Option.{Option, some, none}
-use mathlib.Core.Path.{_≡_, refl, sym, ap, _∙_}
+use mathlib.Core.Bool.{Bool, true, false}
+use mathlib.Core.Option.{Option, none}
+use mathlib.Core.Path.{_≡_, refl, sym, _∙_}
 use native.Mathlib.Omega.{arith}
-use lib.ListN.{length, getD, drop, length-append, length-drop, drop-of-length-le, List·getD-append}
+use lib.ListN.{length, getD, drop, length-append, length-drop, List·getD-append}
 use lib.Seq.{getD-append-seam, drop-append-le}
 use lib.Dec.{ltb, leb, eqb}
-use borrow.Author.Tests.{ltb-true, ltb-false, leb-true, lt-ltb, le-ltb}
+use borrow.Author.Tests.{ltb-true, ltb-false, lt-ltb, le-ltb}
 use Rattle.parser.specs.Reading.{Found, no, got, stop, Reader, lit, seq, then, opt, lack, alt, orElse, verify, keep, map, mapFound, give, pick, and}
-use Rattle.parser.specs.Digits.{isDigit, digitsFrom, field, digits, number, numberFrom, runAt, ofRun, limit, run, nanoseconds, fraction}
-use Rattle.parser.proofs.Fields.{DigitAt, OtherAt, digitsFrom-suc, digitsFrom-other, digitsFrom-end, true≢false}
+use Rattle.parser.specs.Digits.{isDigit, digitsFrom, field, digits, number, runAt, ofRun, limit, run, nanoseconds, fraction}
+use Rattle.parser.proofs.Fields.{digitsFrom-end}
 use Rattle.parser.proofs.Runs.{run-end, digits-short}
 
 pub no≢got : {A : Type 0} {a : A} {n : ℕ} → no ≡ got a n → ⊥

@@ -1,16 +1,16 @@
 -- Laws of digit runs: where they go on and end, and how large their numbers get.
 use Prim.Native.Nat.{ℕ, zero, suc, _+_, _*_, _-_, _^_, _<_, _≤_}
 use mathlib.Core.List.{List, [], _∷_, _++_}
-use mathlib.Core.Bool.{Bool, true, false, not}
+use mathlib.Core.Bool.{Bool, true, false}
 use mathlib.Core.Path.{_≡_, refl, sym, ap, _∙_}
 use native.Mathlib.Omega.{arith}
 use native.Mathlib.Numerals.{add-one}
 use native.Mathlib.Nat.{pow-succ', mul-assoc, mul-one}
-use lib.ListN.{length, getD, take, drop, replicate, drop-of-length-le}
+use lib.ListN.{length, getD, take, replicate, drop-of-length-le}
 use lib.Seq.{drop-cons}
 use lib.Dec.{ltb, leb}
 use borrow.Author.Tests.{ltb-true, leb-true, lt-ltb, le-ltb}
-use Rattle.parser.specs.Reading.{Reader, Says, no, got, pick, and, within}
+use Rattle.parser.specs.Reading.{Reader, Says, no, got, pick}
 use Rattle.parser.specs.Digits.{isDigit, digits, numberFrom, number, runAt, ofRun, atTheEnd, nanoseconds}
 use Rattle.parser.specs.Read.{foundRun, runFound, runMore}
 use Rattle.parser.proofs.Fields.{DigitAt, OtherAt, and-second}

@@ -6,8 +6,7 @@ use mathlib.Core.Bool.{Bool, true, false}
 use mathlib.Core.Option.{Option, some, none}
 use mathlib.Core.Path.{_≡_, refl, sym, ap, _∙_}
 use native.Mathlib.Omega.{arith}
-use lib.ListN.{length}
-use Rattle.parser.specs.Reading.{Found, no, got, stop, Reader, seq, opt, lack, alt, verify, keep, map, mapFound, give, or, and, Says, SaysOn}
+use Rattle.parser.specs.Reading.{Found, no, got, stop, Reader, seq, opt, lack, alt, verify, keep, map, mapFound, or, Says, SaysOn}
 use Rattle.parser.specs.Fields.{orZero}
 use Rattle.parser.specs.declared.Part.{Part}
 use Rattle.parser.specs.declared.Number.{Number}

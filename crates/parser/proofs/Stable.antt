@@ -1,15 +1,15 @@
 -- Where no byte more could matter, every longer input is read the same.
 use Prim.Native.Nat.{ℕ, zero, suc, _+_, _*_, _-_, _<_, _≤_}
 use mathlib.Core.List.{List, [], _∷_, _++_}
-use mathlib.Core.Bool.{Bool, true, false, not}
-use mathlib.Core.Path.{_≡_, refl, ap, ap₂, sym, _∙_}
+use mathlib.Core.Bool.{Bool, true, false}
+use mathlib.Core.Path.{_≡_, refl, sym, _∙_}
 use lib.ListN.{length, getD, drop, length-append, length-drop, List·getD-append}
 use lib.Seq.{drop-append-le}
-use lib.Dec.{ltb, leb, eqb}
+use lib.Dec.{ltb, leb}
 use borrow.Author.Tests.{ltb-true, leb-true, leb-false, lt-ltb, lt-leb, not-false}
 use native.Mathlib.Omega.{arith}
-use Rattle.parser.specs.Reading.{Found, no, got, stop, Reader, lit, seq, then, after, opt, alt, orElse, failed, verify, map, give, pick, or, and}
-use Rattle.parser.specs.Digits.{isDigit, digit, digitsFrom, digitsMore, field, digits, number, numberFrom, runAt, ofRun, atTheEnd, limit, run, nanoseconds, fraction}
+use Rattle.parser.specs.Reading.{Found, no, got, stop, Reader, lit, seq, after, opt, alt, failed, verify, map, give, pick, or, and}
+use Rattle.parser.specs.Digits.{isDigit, digitsFrom, digitsMore, field, digits, number, numberFrom, runAt, ofRun, atTheEnd, limit, run, fraction}
 use Rattle.parser.proofs.Runs.{run-end, digits-inside, digits-more, number-append, number-grows}
 use Rattle.parser.proofs.Fields.{true≢false, and-right, DigitAt, OtherAt, digitsFrom-suc, digitsMore-suc, digitsFrom-other, digitsMore-other, digitsFrom-end, digitsMore-end, out-of-reach, out-no, out-settled}
 

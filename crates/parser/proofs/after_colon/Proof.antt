@@ -1,5 +1,4 @@
 -- Two digits from 00 on are open wherever the input ends, so the colon that may be missing there changes nothing.
-use mathlib.Core.Path.{_≡_, refl}
 use native.Mathlib.Omega.{arith}
 use borrow.Author.Tests.{le-leb}
 use Rattle.parser.specs.Digits.{field, reach, lowest, highest}

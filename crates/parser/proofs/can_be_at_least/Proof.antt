@@ -1,11 +1,8 @@
 -- The loop goes on as `highest` does; once it has reached the least, it stays there.
-use Prim.Native.Nat.{_≤_, _<_}
 use mathlib.Core.Path.{_≡_, refl, sym, _∙_}
 use native.Mathlib.Omega.{arith}
-use native.Mathlib.Numerals.{sub-one}
 use lib.Dec.{leb}
-use borrow.Author.Needs.{needs}
-use borrow.Author.Tests.{le-leb, lt-leb}
+use borrow.Author.Tests.{le-leb}
 use Rattle.parser.specs.Digits.{highest}
 use Rattle.parser.proofs.Fields.{highest-step, highest-grows}
 use Rattle.parser.proofs.can_be_at_least.Statement.{statement}

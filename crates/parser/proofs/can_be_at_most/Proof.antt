@@ -1,11 +1,8 @@
 -- The loop goes on as `lowest` does; once it is past the greatest, it stays there.
-use Prim.Native.Nat.{_≤_, _<_}
 use mathlib.Core.Path.{_≡_, refl, sym, _∙_}
 use native.Mathlib.Omega.{arith}
-use native.Mathlib.Numerals.{sub-one}
 use lib.Dec.{leb}
-use borrow.Author.Needs.{needs}
-use borrow.Author.Tests.{le-leb, lt-leb}
+use borrow.Author.Tests.{lt-leb}
 use Rattle.parser.specs.Digits.{lowest}
 use Rattle.parser.proofs.Fields.{lowest-step, lowest-grows}
 use Rattle.parser.proofs.can_be_at_most.Statement.{statement}

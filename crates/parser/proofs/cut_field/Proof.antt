@@ -1,6 +1,5 @@
 -- Both tests of `reach`, in its order.
-use mathlib.Core.Path.{_≡_, sym, _∙_}
-use mathlib.Core.Bool.{true, false}
+use mathlib.Core.Path.{sym, _∙_}
 use borrow.Author.Needs.{needs}
 use Rattle.parser.specs.Digits.{reach}
 use Rattle.parser.proofs.cut_field.Statement.{statement}

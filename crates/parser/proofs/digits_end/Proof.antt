@@ -1,8 +1,8 @@
 -- The loop goes along the run, and stops where it ends.
-use Prim.Native.Nat.{_+_, _-_, _≤_}
+use Prim.Native.Nat.{_+_, _-_}
 use mathlib.Core.Path.{_≡_, ap}
 use native.Mathlib.Omega.{arith}
-use lib.ListN.{length, getD}
+use lib.ListN.{length}
 use borrow.Author.Needs.{needs}
 use Rattle.parser.specs.Digits.{runAt}
 use Rattle.parser.proofs.Fields.{digit-at, below-digits, above-digits}

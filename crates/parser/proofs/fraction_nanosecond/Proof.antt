@@ -8,8 +8,8 @@ use lib.ListN.{length, getD, take, drop, replicate}
 use lib.Dec.{ltb, leb}
 use borrow.Author.Needs.{needs}
 use borrow.Author.Tests.{ltb-true, ltb-false, lt-ltb, le-leb, lt-leb}
-use Rattle.parser.specs.Reading.{Says, no, got}
-use Rattle.parser.specs.Digits.{fraction, runAt, digits, number, numberFrom, nanoseconds, ofRun, atTheEnd}
+use Rattle.parser.specs.Reading.{Says, got}
+use Rattle.parser.specs.Digits.{fraction, runAt, digits, number, numberFrom, nanoseconds, atTheEnd}
 use Rattle.parser.specs.Read.{foundRun, runFound, runMore}
 use Rattle.parser.proofs.Fields.{DigitAt, digit-at, below-digits, above-digits}
 use Rattle.parser.proofs.Runs.{run-step, run-other, run-end, number-grows, nanoseconds-small, found-run-says, end-is, end-is-not}

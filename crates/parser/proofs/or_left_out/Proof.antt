@@ -1,5 +1,4 @@
 -- By what was found.
-use Rattle.parser.specs.Read.{orLeftOut}
 use borrow.Author.Needs.{needs}
 use Rattle.parser.proofs.or_left_out.Statement.{statement}
 use Rattle.parser.proofs.or_left_out.Tie as tie

@@ -1,10 +1,9 @@
 -- Each turn puts one zero behind the number; it never passes the number that comes out, which fits.
-use Prim.Native.Nat.{ℕ, zero, suc, _+_, _*_, _-_, _^_, _<_, _≤_}
+use Prim.Native.Nat.{ℕ, suc, _+_, _*_, _-_, _<_}
 use mathlib.Core.Path.{_≡_, refl, sym, ap, _∙_}
 use native.Mathlib.Omega.{arith}
 use native.Mathlib.Nat.{add-zero}
 use lib.ListN.{replicate}
-use borrow.Author.Needs.{needs}
 use Rattle.parser.specs.Digits.{numberFrom}
 use Rattle.parser.proofs.Runs.{number-grows}
 use Rattle.parser.proofs.padded.Statement.{statement}

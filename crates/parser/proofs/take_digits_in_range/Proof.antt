@@ -5,10 +5,9 @@ use mathlib.Core.Bool.{Bool, true, false}
 use mathlib.Core.Path.{_≡_, refl, sym, _∙_}
 use native.Mathlib.Omega.{arith}
 use lib.ListN.{length, getD}
-use lib.Dec.{ltb, leb}
 use borrow.Author.Needs.{needs}
-use borrow.Author.Tests.{lt-ltb, le-ltb, le-leb, lt-leb}
-use Rattle.parser.specs.Reading.{Says, within, pick, got, no}
+use borrow.Author.Tests.{le-ltb, le-leb, lt-leb}
+use Rattle.parser.specs.Reading.{Says, got, no}
 use Rattle.parser.specs.Digits.{field, digitsFrom, digitsMore, reach}
 use Rattle.parser.specs.Read.{numberFound, numberMore, cutField}
 use Rattle.parser.proofs.Fields.{DigitAt, OtherAt, digit-at, below-digits, above-digits, digitsFrom-step, digitsMore-step, digitsFrom-other, digitsMore-other, digitsFrom-end, digitsMore-end, above, out-no, out-settled}
