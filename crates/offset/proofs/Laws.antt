@@ -1,24 +1,23 @@
 -- The laws of offsets: what other kinds cite, and the verdict.
-use Prim.Native.Nat.{ℕ, zero, suc, _+_, _≤_, _<_}
+use Prim.Native.Nat.{ℕ, _≤_}
 use mathlib.Core.List.{List}
 use mathlib.Core.Bool.{Bool, true, false, not}
-use mathlib.Core.Option.{Option, some, none}
-use mathlib.Core.Path.{_≡_, refl, sym, ap, _∙_}
+use mathlib.Core.Path.{_≡_, refl, sym, _∙_}
 use native.Mathlib.Omega.{arith}
 use lib.ListN.{length, getD}
-use lib.Dec.{ltb, leb, eqb}
-use borrow.Author.Tests.{ltb-true, eqb-true, le-leb, ne-eqb, not-true}
-use Rattle.types.specs.declared.Offset.{Offset}
-use Rattle.types.specs.Sums.{signedOffset, zeroOffset}
-use Rattle.parser.specs.Reading.{Found, no, got, stop, Reader, Says, lit, seq, after, opt, alt, verify, map, mapFound, orElse, pick, or, and}
-use Rattle.parser.specs.Digits.{field, reach, highest, lowest}
-use Rattle.parser.specs.Fields.{hour, minute, signed, precededBy}
+use lib.Dec.{ltb, eqb}
+use borrow.Author.Tests.{eqb-true, ne-eqb}
+use Rattle.types.specs.Sums.{zeroOffset}
+use Rattle.parser.specs.Reading.{Found, no, got, stop, Says, lit, seq, after, alt, map, or, and}
+use Rattle.parser.specs.Digits.{reach, highest, lowest}
+use Rattle.parser.specs.Fields.{hour, signed}
 use Rattle.parser.proofs.Fields.{true≢false, and-right}
 use Rattle.parser.proofs.Stable.{Stable, lit-stable, seq-stable, opt-stable, alt-stable, verify-stable, map-stable, field-stable}
 use Rattle.parser.proofs.Places.{no≢got, Bounded, Fails, Skips, lit-bounded, seq-bounded, opt-bounded, alt-bounded, verify-bounded, map-bounded, field-bounded, lit-fails, seq-fails, alt-fails, map-fails, opt-skips, verify-skips, map-skips}
-use Rattle.parser.proofs.Leaves.{From, preceded-stable, preceded-bounded, preceded-hopeful, above-zero, signed-stable, signed-bounded, signed-fails, signed-at-end, signed-starts, field-hopeful-in, field-starts, field-definite, lit-hopeful, preceded-fails}
+use Rattle.parser.proofs.Leaves.{From, above-zero, signed-stable, signed-bounded, signed-fails, signed-at-end, signed-starts, field-hopeful-in, field-starts, lit-hopeful}
+use Rattle.parser.proofs.Preceded.{preceded-stable, preceded-bounded, preceded-hopeful, preceded-fails}
 use Rattle.parser.proofs.Says.{says-alt-no, says-map}
-use Rattle.parser.proofs.Hopeful.{Anything, AnyByte, Hopeful, Starts, Ends, Keeps, at-end-definite, definite-keeps, map-hopeful, verify-hopeful, opt-hopeful, alt-hopeful, seq-hopeful, starts-hopeful, hopeful-weaken, starts-weaken, ends-then-skips, ends-then-starts}
+use Rattle.parser.proofs.Hopeful.{Anything, AnyByte, Hopeful, Starts, at-end-definite, definite-keeps, map-hopeful, verify-hopeful, opt-hopeful, alt-hopeful, seq-hopeful, starts-hopeful, hopeful-weaken, starts-weaken, ends-then-skips, ends-then-starts}
 use Rattle.offset.specs.Rules.{allowed, offsetMinute, offsetHour, offsetZulu, offset}
 use Rattle.parser.specs.Fields.{orZero}
 

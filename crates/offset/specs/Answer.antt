@@ -1,5 +1,4 @@
 -- The code's answers as the paper's.
-use Prim.Native.Nat.{ℕ}
 use mathlib.Core.Bool.{Bool, true, false}
 use Rattle.types.specs.declared.Offset.{Offset}
 use Rattle.types.specs.Numbers.{numberOf}

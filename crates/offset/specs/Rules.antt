@@ -1,6 +1,6 @@
 -- Document 01's rule of offsets.
 use Prim.Native.Nat.{ℕ}
-use mathlib.Core.Bool.{Bool, true, false, not}
+use mathlib.Core.Bool.{Bool, not}
 use lib.Dec.{eqb}
 use Rattle.types.specs.declared.Offset.{Offset}
 use Rattle.types.specs.Sums.{signedOffset, zeroOffset}

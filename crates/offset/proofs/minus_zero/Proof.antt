@@ -3,7 +3,6 @@ use mathlib.Core.Bool.{Bool, true, false, not}
 use mathlib.Core.Path.{_≡_, refl}
 use lib.Dec.{eqb}
 use borrow.Author.Tests.{eq-eqb, ne-eqb}
-use borrow.Author.Needs.{needs}
 use Rattle.offset.proofs.minus_zero.Statement.{statement}
 use Rattle.offset.proofs.minus_zero.Tie as tie
 

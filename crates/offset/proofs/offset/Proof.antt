@@ -1,6 +1,5 @@
 -- What the code says of the rule is the promise, by the laws of the kind.
 use mathlib.Core.Bool.{true, false}
-use mathlib.Core.Path.{sym}
 use Rattle.parser.proofs.Hopeful.{Anything}
 use Rattle.parser.proofs.Verdict.{says-begins}
 use Rattle.offset.specs.Rules.{offset}
@@ -9,8 +8,8 @@ use borrow.Author.Needs.{needs}
 use Rattle.offset.proofs.offset.Statement.{statement}
 use Rattle.offset.proofs.offset.Tie as tie
 
-offset-at-requires : tie.Need-offset-at-requires
-offset-at-requires c κs = search needs
+offset-begun-requires : tie.Need-offset-begun-requires
+offset-begun-requires c κs = search needs
 
 enum-known-found : tie.Need-enum-known-found
 enum-known-found c = search needs
@@ -33,23 +32,23 @@ no-form-requires-2 c κs = search needs
 returns : tie.Need-returns
 returns c =
     let a = c .before .before .before .before .before .before .args in
-    rw (c .verdict-on .ensures) (says-begins 3 Anything offset offset-stable offset-bounded offset-hopeful (a .s .now) _ _ (rw (c .before .before .found .given .1) at (c .before .before .before .before .offset-at .ensures)))
+    rw (c .verdict-on .ensures) (says-begins 3 Anything offset offset-stable offset-bounded offset-hopeful (a .s .now) _ _ (rw (c .before .before .found .given .1) at (c .before .before .before .before .offset-begun .ensures)))
 
 returns-2 : tie.Need-returns-2
 returns-2 c =
     let a = c .before .before .before .before .before .args in
-    rw (c .no-form .ensures .0, c .no-form .ensures .1) (says-begins 3 Anything offset offset-stable offset-bounded offset-hopeful (a .s .now) _ false (rw (c .before .enum-told .given .1) at (c .before .before .before .offset-at .ensures)))
+    rw (c .no-form .ensures .0, c .no-form .ensures .1) (says-begins 3 Anything offset offset-stable offset-bounded offset-hopeful (a .s .now) _ false (rw (c .before .enum-told .given .1) at (c .before .before .before .offset-begun .ensures)))
 
 returns-3 : tie.Need-returns-3
 returns-3 c =
     let a = c .before .before .before .before .before .args in
-    rw (c .no-form2 .ensures .0, c .no-form2 .ensures .1) (says-begins 3 Anything offset offset-stable offset-bounded offset-hopeful (a .s .now) _ true (rw (c .before .enum-told2 .given .1) at (c .before .before .before .offset-at .ensures)))
+    rw (c .no-form2 .ensures .0, c .no-form2 .ensures .1) (says-begins 3 Anything offset offset-stable offset-bounded offset-hopeful (a .s .now) _ true (rw (c .before .enum-told2 .given .1) at (c .before .before .before .offset-begun .ensures)))
 
 pub offset-spec : {M : Type 1} → statement M
 offset-spec =
     tie.close
     (tie.spec
-    offset-at-requires
+    offset-begun-requires
     enum-known-found
     verdict-on-requires
     enum-told

@@ -1,6 +1,5 @@
 -- A sign decides for the first alternative, so that an hour that is cut short leaves no `Z` to try.
-use mathlib.Core.Bool.{true, false}
-use Rattle.parser.specs.Reading.{alt, Says}
+use mathlib.Core.Bool.{false}
 use Rattle.parser.proofs.Says.{says-alt-got, says-alt-no}
 use Rattle.offset.specs.Rules.{offset, offsetHour, offsetZulu}
 use Rattle.offset.proofs.Laws.{no-zulu}

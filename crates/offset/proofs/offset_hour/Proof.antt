@@ -1,5 +1,4 @@
 -- The sign, then the hour, then what follows; the first that fails ends it.
-use Prim.Native.Nat.{_≤_}
 use mathlib.Core.Bool.{true, false}
 use mathlib.Core.Path.{sym}
 use Rattle.parser.specs.Reading.{seq}

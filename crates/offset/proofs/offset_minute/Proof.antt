@@ -1,14 +1,14 @@
 -- The minute is there, or left out, and what is made of it is the rule's.
-use Prim.Native.Nat.{ℕ, _≤_}
+use Prim.Native.Nat.{ℕ}
 use mathlib.Core.List.{List}
 use mathlib.Core.Bool.{Bool, true, false}
 use mathlib.Core.Option.{Option}
 use mathlib.Core.Path.{_≡_, refl, sym, _∙_}
 use Rattle.types.specs.declared.Offset.{Offset}
 use Rattle.types.specs.Sums.{signedOffset}
-use Rattle.parser.specs.Reading.{Says, got, no, pick, opt, verify, map, mapFound}
+use Rattle.parser.specs.Reading.{Says, got, no, pick, opt, verify, mapFound}
 use Rattle.parser.specs.Fields.{minute, precededBy, orZero}
-use Rattle.parser.proofs.Leaves.{preceded-within}
+use Rattle.parser.proofs.Preceded.{preceded-within}
 use Rattle.parser.proofs.Says.{says-map, says-verify, left-out, left-out-within}
 use Rattle.offset.specs.Rules.{offsetMinute, allowed}
 use Rattle.offset.specs.declared.OffsetFound.{OffsetFound}

@@ -1,7 +1,6 @@
 -- By what was found.
-use mathlib.Core.Path.{_≡_, sym, ap, _∙_}
+use mathlib.Core.Path.{ap, _∙_}
 use Rattle.parser.specs.Answer.{restOf}
-use Rattle.offset.specs.Rules.{offset}
 use borrow.Author.Needs.{needs}
 use Rattle.offset.proofs.offset_rest.Statement.{statement}
 use Rattle.offset.proofs.offset_rest.Tie as tie

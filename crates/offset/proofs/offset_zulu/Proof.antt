@@ -1,8 +1,6 @@
 -- By what stands at the place.
-use mathlib.Core.Bool.{true, false}
-use Rattle.types.specs.declared.Offset.{Offset}
 use Rattle.types.specs.Sums.{zeroOffset}
-use Rattle.parser.specs.Reading.{lit, got, no}
+use Rattle.parser.specs.Reading.{lit}
 use Rattle.parser.proofs.Says.{says-map}
 use Rattle.offset.specs.Rules.{offsetZulu}
 use borrow.Author.Needs.{needs}

@@ -1,8 +1,7 @@
 -- By what was found.
-use mathlib.Core.Path.{_≡_, sym, ap, _∙_}
+use mathlib.Core.Path.{ap, _∙_}
 use lib.ListN.{length}
 use Rattle.parser.specs.Answer.{ended}
-use Rattle.offset.specs.Rules.{offset}
 use borrow.Author.Needs.{needs}
 use Rattle.offset.proofs.parse_offset.Statement.{statement}
 use Rattle.offset.proofs.parse_offset.Tie as tie

@@ -1,11 +1,10 @@
 -- Minus zero has been sent away, and within the ranges the constructor refuses nothing.
 use Prim.Native.Nat.{ℕ, _≤_}
-use mathlib.Core.Bool.{Bool, true, false, not}
+use mathlib.Core.Bool.{Bool}
 use mathlib.Core.Path.{_≡_, refl, sym, ap, _∙_}
 use native.Mathlib.Omega.{arith}
 use borrow.Author.Tests.{not-true, not-false, le-leb}
 use Rattle.types.specs.declared.Offset.{Offset}
-use Rattle.types.specs.declared.MadeOffset.{MadeOffset}
 use Rattle.types.specs.declared.MadeOffset.the-variants.{Made, Outside}
 use Rattle.types.specs.Sums.{made, signedOffset}
 use Rattle.parser.specs.Reading.{got}
