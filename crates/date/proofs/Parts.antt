@@ -17,7 +17,8 @@ use Rattle.parser.proofs.Fields.{and-second, lowest-grows, highest-grows}
 use Rattle.parser.proofs.Stable.{lit-stable, field-stable}
 use Rattle.parser.proofs.Places.{lit-bounded, field-bounded, Fails, Foreign, Skips, lit-fails, field-fails, map-fails, opt-skips, verify-skips, map-skips, lit-foreign}
 use Rattle.parser.proofs.Hopeful.{Anything, Hopeful, Starts, Keeps, Definite, map-definite, opt-seq-definite, map-hopeful, verify-hopeful, opt-hopeful, alt-hopeful, hopeful-weaken, ends-alt, ends-then-starts, ends-then-skips, left-out-starts, left-out-hopeful}
-use Rattle.parser.proofs.Leaves.{signed-stable, signed-bounded, signed-fails, signed-at-end, signed-foreign, Byte, DigitByte, From, Narrows, lit-starts, lit-at-end, lit-hopeful, lit-definite, field-hopeful, field-starts, field-definite, preceded-hopeful, preceded-fails, digit-is-not}
+use Rattle.parser.proofs.Leaves.{signed-stable, signed-bounded, signed-fails, signed-at-end, signed-foreign, Byte, DigitByte, From, Narrows, lit-starts, lit-at-end, lit-hopeful, lit-definite, field-hopeful, field-starts, field-definite, digit-is-not}
+use Rattle.parser.proofs.Preceded.{preceded-hopeful, preceded-fails}
 use Rattle.date.specs.Rules.{minus, digitsOfYear, year, dash, orFirst, oneToSeven, weekOfYear, week, dayOfWeek, weekAndDay, wd, mdNumeric, dayOfYear, ordinal, ddd, dayOfMonth, monthAndDay, md}
 use Rattle.date.specs.Answer.{afterYear}
 use Rattle.parser.proofs.General.{definite-keeps-any, map-starts, then-starts-hopeful, then-skips-hopeful, Lawful, lit-lawful, field-lawful, seq-lawful, opt-lawful, alt-lawful, verify-lawful, map-lawful, preceded-lawful}

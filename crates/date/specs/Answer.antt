@@ -4,7 +4,7 @@ use mathlib.Core.Bool.{Bool, true, false}
 use lib.IntN.{ℤ}
 use Rattle.types.specs.Numbers.{numberOf}
 use Rattle.types.specs.declared.Date.{Date}
-use Rattle.parser.specs.Reading.{Found, no, got, stop, Reader, alt}
+use Rattle.parser.specs.Reading.{Found, no, got, Reader, alt}
 use Rattle.parser.specs.Answer.{Told, recorded, refused}
 use Rattle.date.specs.Rules.{wd, mdNumeric, ddd, md}
 use Rattle.date.specs.declared.YearFound.{YearFound}

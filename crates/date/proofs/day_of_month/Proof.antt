@@ -1,25 +1,8 @@
 -- From the place after a dash, if there is one: a day, or none.
-use Prim.Native.Nat.{ℕ}
-use mathlib.Core.List.{List}
-use mathlib.Core.Bool.{Bool}
-use mathlib.Core.Path.{_≡_, refl}
-use native.Mathlib.Omega.{arith}
-use Rattle.parser.specs.Reading.{Found, Says, lit, opt, lack, mapFound}
-use Rattle.parser.specs.Digits.{reach, lowest, highest}
-use Rattle.parser.specs.Fields.{day, precededBy}
-use Rattle.date.specs.Rules.{orFirst, dayOfMonth}
-use Rattle.parser.specs.Read.{placeAfter}
-use Rattle.parser.proofs.Says.{says-map, says-opt}
-use Rattle.parser.proofs.General.{field-eager, says-past}
+use Rattle.date.proofs.Dash.{of-day}
 use borrow.Author.Needs.{needs}
 use Rattle.date.proofs.day_of_month.Statement.{statement}
 use Rattle.date.proofs.day_of_month.Tie as tie
-
-of-day : (s : List ℕ) (at from : ℕ) (f : Found ℕ) (m : Bool) → from ≡ placeAfter at (lit 45 .reads s at) → Says day s from f m → Says dayOfMonth s at (mapFound orFirst (lack at f)) m
-unfolding dayOfMonth reach lowest highest
-of-day s at from f m e h =
-    let p = precededBy 45 day in
-    says-map (opt p) s at orFirst _ m (says-opt p s at f m (says-past 45 day (field-eager 2 1 31 (omega arith) refl) s at from f m e h))
 
 past-sep-requires : tie.Need-past-sep-requires
 past-sep-requires c κs = search needs
