@@ -1,19 +1,15 @@
 -- The laws of times: what other kinds cite, and the verdict.
-use Prim.Native.Nat.{ℕ, _+_, _≤_}
-use mathlib.Core.List.{List}
-use mathlib.Core.Bool.{Bool, true, false}
-use mathlib.Core.Option.{Option, some, none}
-use mathlib.Core.Path.{_≡_, refl, sym, _∙_}
+use Prim.Native.Nat.{ℕ}
+use mathlib.Core.Path.{refl}
 use native.Mathlib.Omega.{arith}
-use lib.Dec.{eqb}
-use Rattle.types.specs.declared.Time.{Time}
-use Rattle.parser.specs.Reading.{Reader, lit, seq, opt, map}
-use Rattle.parser.specs.Digits.{field, fraction, reach, highest, lowest}
+use Rattle.parser.specs.Reading.{Reader, lit, seq, opt}
+use Rattle.parser.specs.Digits.{fraction, reach, highest, lowest}
 use Rattle.parser.specs.Fields.{hour, minute, second, either, precededBy}
 use Rattle.parser.proofs.Stable.{Stable, lit-stable, alt-stable, seq-stable, opt-stable, map-stable, field-stable, fraction-stable}
 use Rattle.parser.proofs.Places.{Bounded, Fails, Skips, lit-bounded, alt-bounded, seq-bounded, opt-bounded, map-bounded, field-bounded, fraction-bounded, lit-fails, alt-fails, seq-fails, field-fails, opt-skips, map-skips, seq-skips, lit-foreign}
-use Rattle.parser.proofs.Hopeful.{Anything, AnyByte, Hopeful, Starts, Ends, AtEnd, at-end-definite, definite-keeps, map-hopeful, opt-hopeful, seq-hopeful, starts-hopeful, hopeful-weaken, ends-weaken, ends-alt, ends-then-skips, ends-then-starts, left-out-hopeful}
-use Rattle.parser.proofs.Leaves.{From, DigitByte, Byte, alt-at-end, lit-at-end, lit-starts, digit-is-not, field-hopeful, field-starts, preceded-stable, preceded-bounded, preceded-fails, preceded-hopeful}
+use Rattle.parser.proofs.Hopeful.{Anything, AnyByte, Hopeful, Starts, AtEnd, at-end-definite, definite-keeps, map-hopeful, opt-hopeful, seq-hopeful, starts-hopeful, hopeful-weaken, ends-weaken, ends-alt, ends-then-skips, ends-then-starts, left-out-hopeful}
+use Rattle.parser.proofs.Leaves.{From, DigitByte, Byte, alt-at-end, lit-at-end, lit-starts, digit-is-not, field-hopeful, field-starts}
+use Rattle.parser.proofs.Preceded.{preceded-stable, preceded-bounded, preceded-fails, preceded-hopeful}
 use Rattle.parser.proofs.RunLeaves.{fraction-hopeful, fraction-starts}
 use Rattle.offset.specs.Rules.{offset}
 use Rattle.parser.specs.Fields.{orZero}

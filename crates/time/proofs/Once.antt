@@ -1,7 +1,7 @@
 -- No two answers meet one promise: the rule fixes number, record and count, and the continuations the verdict.
 use Prim.Native.Nat.{ℕ}
 use mathlib.Core.List.{List}
-use mathlib.Core.Path.{_≡_, refl, sym, ap, ap₂, _∙_}
+use mathlib.Core.Path.{_≡_, sym, ap₂, _∙_}
 use Rattle.types.specs.declared.Verdict.{Verdict}
 use Rattle.types.proofs.Laws.{number-once}
 use Rattle.parser.specs.Answer.{Begins, Ended}

@@ -1,6 +1,4 @@
 -- By what was found.
-use mathlib.Core.Path.{_∙_, sym}
-use Rattle.time.specs.Answer.{orLeftOut}
 use borrow.Author.Needs.{needs}
 use Rattle.time.proofs.or_midnight.Statement.{statement}
 use Rattle.time.proofs.or_midnight.Tie as tie

@@ -1,8 +1,7 @@
 -- By what was found.
-use mathlib.Core.Path.{_≡_, sym, ap, _∙_}
+use mathlib.Core.Path.{ap, _∙_}
 use lib.ListN.{length}
 use Rattle.parser.specs.Answer.{ended}
-use Rattle.time.specs.Rules.{time}
 use borrow.Author.Needs.{needs}
 use Rattle.time.proofs.parse_time.Statement.{statement}
 use Rattle.time.proofs.parse_time.Tie as tie

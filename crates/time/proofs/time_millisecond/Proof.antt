@@ -3,13 +3,13 @@ use Prim.Native.Nat.{ℕ}
 use mathlib.Core.List.{List}
 use mathlib.Core.Bool.{Bool, true, false}
 use mathlib.Core.Option.{Option, some, none}
-use mathlib.Core.Path.{_≡_, refl, sym, _∙_}
+use mathlib.Core.Path.{_≡_, sym}
 use Rattle.parser.specs.Reading.{Reader, Says, SaysOn, no, got, seq, opt, or}
 use Rattle.parser.specs.Digits.{fraction}
 use Rattle.parser.specs.Fields.{either}
 use Rattle.parser.proofs.Places.{fraction-never-stops}
 use Rattle.parser.proofs.Says.{or-false, or-true, says-opt, says-seq-got, says-seq-no, says-on, on-map}
-use Rattle.time.specs.Rules.{Clock, clockOf, millisecond}
+use Rattle.time.specs.Rules.{clockOf, millisecond}
 use borrow.Author.Needs.{needs}
 use Rattle.time.proofs.time_millisecond.Statement.{statement}
 use Rattle.time.proofs.time_millisecond.Tie as tie

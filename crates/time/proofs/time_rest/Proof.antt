@@ -1,7 +1,6 @@
 -- By what was found.
-use mathlib.Core.Path.{_≡_, sym, ap, _∙_}
+use mathlib.Core.Path.{ap, _∙_}
 use Rattle.parser.specs.Answer.{restOf}
-use Rattle.time.specs.Rules.{time}
 use borrow.Author.Needs.{needs}
 use Rattle.time.proofs.time_rest.Statement.{statement}
 use Rattle.time.proofs.time_rest.Tie as tie

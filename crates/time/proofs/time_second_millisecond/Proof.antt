@@ -1,5 +1,4 @@
 -- The second is there or left out, and the fraction is read on from there.
-use mathlib.Core.Path.{sym}
 use Rattle.parser.specs.Reading.{opt}
 use Rattle.parser.specs.Fields.{second, precededBy, orZero}
 use Rattle.parser.proofs.Says.{says-seq-on, left-out}
