@@ -8,8 +8,8 @@ use borrow.Author.Needs.{needs}
 use Rattle.datetime.proofs.datetime.Statement.{statement}
 use Rattle.datetime.proofs.datetime.Tie as tie
 
-datetime-at-requires : tie.Need-datetime-at-requires
-datetime-at-requires c κs = search needs
+datetime-begun-requires : tie.Need-datetime-begun-requires
+datetime-begun-requires c κs = search needs
 
 enum-known-found : tie.Need-enum-known-found
 enum-known-found c = search needs
@@ -26,23 +26,23 @@ enum-told-2 c = search needs
 returns : tie.Need-returns
 returns c =
     let a = c .before .before .before .before .before .before .args in
-    rw (c .verdict-on .ensures) (says-begins 10 Anything dateTime datetime-stable datetime-bounded datetime-hopeful (a .s .now) _ _ (rw (c .before .before .found .given .1) at (c .before .before .before .before .datetime-at .ensures)))
+    rw (c .verdict-on .ensures) (says-begins 10 Anything dateTime datetime-stable datetime-bounded datetime-hopeful (a .s .now) _ _ (rw (c .before .before .found .given .1) at (c .before .before .before .before .datetime-begun .ensures)))
 
 returns-2 : tie.Need-returns-2
 returns-2 c =
     let a = c .before .before .before .before .args in
-    says-begins 10 Anything dateTime datetime-stable datetime-bounded datetime-hopeful (a .s .now) _ false (rw (c .enum-told .given .1) at (c .before .before .datetime-at .ensures))
+    says-begins 10 Anything dateTime datetime-stable datetime-bounded datetime-hopeful (a .s .now) _ false (rw (c .enum-told .given .1) at (c .before .before .datetime-begun .ensures))
 
 returns-3 : tie.Need-returns-3
 returns-3 c =
     let a = c .before .before .before .before .args in
-    says-begins 10 Anything dateTime datetime-stable datetime-bounded datetime-hopeful (a .s .now) _ true (rw (c .enum-told2 .given .1) at (c .before .before .datetime-at .ensures))
+    says-begins 10 Anything dateTime datetime-stable datetime-bounded datetime-hopeful (a .s .now) _ true (rw (c .enum-told2 .given .1) at (c .before .before .datetime-begun .ensures))
 
 pub datetime-spec : {M : Type 1} → statement M
 datetime-spec =
     tie.close
     (tie.spec
-    datetime-at-requires
+    datetime-begun-requires
     enum-known-found
     verdict-on-requires
     enum-told

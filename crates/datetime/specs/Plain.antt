@@ -1,0 +1,27 @@
+-- What the code reads at one go before it turns to the rule: a plain date, `T` and a plain time. `proofs/Plain.antt` shows that the
+-- rule reads it so too.
+use Prim.Native.Nat.{ℕ}
+use mathlib.Core.List.{List}
+use lib.ListN.{length, getD}
+use lib.Dec.{ltb, eqb}
+use Rattle.parser.specs.Reading.{pick}
+use Rattle.date.specs.Plain.{plainDate}
+use Rattle.date.specs.declared.PlainDate.{PlainDate}
+use Rattle.date.specs.declared.PlainDate.the-variants as date
+use Rattle.time.specs.Plain.{plainClock, plainMillisecond, plainTime, firstPlain}
+use Rattle.time.specs.declared.PlainTime.{PlainTime}
+use Rattle.time.specs.declared.PlainTime.the-variants as time
+use Rattle.datetime.specs.Rules.{stamp}
+use Rattle.datetime.specs.declared.PlainStamp.{PlainStamp}
+use Rattle.datetime.specs.declared.PlainStamp.the-variants.{Got, Other}
+
+unfoldable pub dateOfStamp : List ℕ → PlainDate
+dateOfStamp s = pick (ltb (length s) 19) date.Other (pick (eqb (getD s 10 0) 84) (plainDate s) date.Other)
+
+abbrev pub stampOf : PlainTime → PlainDate → PlainStamp
+stampOf (time.Got t n m) (date.Got d) = Got (stamp d t) n m
+stampOf (time.Got t n m) date.Other = Other
+stampOf time.Other d = Other
+
+abbrev pub plainStamp : List ℕ → PlainStamp
+plainStamp s = stampOf (firstPlain (plainTime s 23 (plainClock s 11) (plainMillisecond s 19)) (plainTime s 19 (plainClock s 11) 0)) (dateOfStamp s)
