@@ -7,15 +7,16 @@ use mathlib.Core.Path.{_≡_, refl, sym, ap, _∙_}
 use native.Mathlib.Omega.{arith}
 use lib.ListN.{length, getD}
 use lib.Dec.{ltb, leb, eqb}
-use borrow.Author.Tests.{ltb-true, ltb-false, leb-true, lt-ltb, le-ltb, le-leb, eqb-true, not-false, not-true}
+use borrow.Author.Tests.{ltb-true, ltb-false, leb-true, lt-ltb, le-ltb, le-leb, eqb-true, eq-eqb, ne-eqb, not-false, not-true}
 use Rattle.parser.specs.Reading.{Found, no, got, stop, Reader, lit, seq, opt, map, mapFound, give, pick, or, and, Says}
-use Rattle.parser.specs.Digits.{isDigit, number, numberFrom, runAt, ofRun, limit, run}
-use Rattle.parser.proofs.Fields.{and-first, and-second, and-right, DigitAt, OtherAt}
+use Rattle.parser.specs.Digits.{isDigit, twoNumber, twoDigits, number, numberFrom, runAt, ofRun, limit, run}
+use Rattle.parser.proofs.Fields.{and-first, and-second, and-right, DigitAt, OtherAt, above-digits}
+use Rattle.parser.proofs.Two.{is-digit, two-is, two-some}
 use Rattle.parser.proofs.Runs.{run-step, run-other, run-end}
 use Rattle.parser.proofs.Places.{no≢got, got-place, stop≢got}
 use Rattle.parser.proofs.Says.{says-opt, says-seq-got, says-seq-stop}
 use Rattle.duration.specs.Rules.{part, present}
-use Rattle.duration.specs.Items.{itemOf, itemAt, here, past, isCut, unlessTooBig}
+use Rattle.duration.specs.Items.{itemOf, itemAt, here, past, partOf, absentPart, partAt, isCut, unlessTooBig}
 use Rattle.duration.specs.declared.Item.{Item}
 use Rattle.duration.specs.declared.Item.the-variants as item
 
@@ -208,3 +209,60 @@ no-letter c s at d h = go (ltb at (length s)) (eqb (getD s at 0) c) refl refl
     go true true i e = absurd (h (other-item s at (record { inside = i; is = rw (eqb-true (getD s at 0) c e) d })))
     go true false i e = rw (i, e)
     go false u i e = rw i
+
+-- no part has room where a byte is left, or none
+pub short-part : (s : List ℕ) (at c : ℕ) → length s ≤ at + 1 → partAt s at c ≡ absentPart at
+short-part s at c h = go (ltb at (length s)) (isDigit (getD s at 0)) refl refl
+  where
+    go : (t u : Bool) → ltb at (length s) ≡ t → isDigit (getD s at 0) ≡ u → partAt s at c ≡ absentPart at
+    go true true i d = rw (last-digit-item s at (record { inside = i; is = d }) h)
+    go true false i d = rw (other-item s at (record { inside = i; is = d }))
+    go false u i d = rw (end-item s at (ltb-false at (length s) i))
+
+-- two digits
+module _ (s : List ℕ) (at : ℕ) (d : DigitAt s at) (e : DigitAt s (at + 1)) (o : OtherAt s (at + 2)) where
+  pub two-digit-item : itemAt s at ≡ item.Number (twoNumber (getD s at 0) (getD s (at + 1) 0)) (getD s (at + 2) 0) (at + 3)
+  unfolding itemAt run numberFrom
+  two-digit-item =
+      let a = is-digit (getD s at 0) (d .is) in
+      let b = is-digit (getD s (at + 1) 0) (e .is) in
+      let p : at + 1 + 1 ≡ at + 2 = omega arith in
+      let q : at + 2 + 1 ≡ at + 3 = omega arith in
+      let n : (0 * 10 + (getD s at 0 - 48)) * 10 + (getD s (at + 1) 0 - 48) ≡ twoNumber (getD s at 0) (getD s (at + 1) 0) = omega arith in
+      let small = le-leb (twoNumber (getD s at 0) (getD s (at + 1) 0)) limit (omega (arith, a .greatest, b .greatest)) in
+      simp (run-step s at d, run-step s (at + 1) e, p, run-other s (at + 2) o, n, small, lt-ltb (at + 2) (length s) (ltb-true (at + 2) (length s) (o .inside)), q)
+
+-- ---- a part by its first three bytes, where its letter is no digit
+
+module _ (s : List ℕ) (at c : ℕ) (l : at + 3 ≤ length s) (k : 57 < c) where
+  abbrev first : ℕ
+  first = getD s at 0
+
+  abbrev second : ℕ
+  second = getD s (at + 1) 0
+
+  -- two digits and the letter
+  pub two-digits-there : getD s (at + 2) 0 ≡ c → eqb (twoDigits first second 0 99) 255 ≡ false → partAt s at c ≡ partOf (twoDigits first second 0 99) (at + 3)
+  two-digits-there b e =
+      let t = two-is first second 0 99 e in
+      let d : DigitAt s at = record { inside = lt-ltb at (length s) (omega (arith, l)); is = t .first } in
+      let f : DigitAt s (at + 1) = record { inside = lt-ltb (at + 1) (length s) (omega (arith, l)); is = t .second } in
+      let o = above-digits s (at + 2) (omega (arith, l)) (omega (arith, b, k)) in
+      simp (two-some first second 0 99 t, two-digit-item s at d f o, eq-eqb (getD s (at + 2) 0) c b)
+
+  -- no letter in the second place, and another in the third
+  pub third-tells : second ≤ 57 → 57 < getD s (at + 2) 0 → eqb (getD s (at + 2) 0) c ≡ false → partAt s at c ≡ absentPart at
+  third-tells h g n = go (isDigit first) (isDigit second) refl refl
+    where
+      other : eqb second c ≡ false
+      other = ne-eqb second c (λ z. omega (arith, z, h, k))
+
+      go : (t u : Bool) → isDigit first ≡ t → isDigit second ≡ u → partAt s at c ≡ absentPart at
+      go true true d e =
+          let x : DigitAt s at = record { inside = lt-ltb at (length s) (omega (arith, l)); is = d } in
+          let y : DigitAt s (at + 1) = record { inside = lt-ltb (at + 1) (length s) (omega (arith, l)); is = e } in
+          simp (two-digit-item s at x y (above-digits s (at + 2) (omega (arith, l)) g), n)
+      go true false d e =
+          let x : DigitAt s at = record { inside = lt-ltb at (length s) (omega (arith, l)); is = d } in
+          simp (digit-item s at x (record { inside = lt-ltb (at + 1) (length s) (omega (arith, l)); is = e }), other)
+      go false u d e = rw (other-item s at (record { inside = lt-ltb at (length s) (omega (arith, l)); is = d }))

@@ -11,7 +11,8 @@ use borrow.Author.Tests.{ltb-true, ltb-false, lt-ltb, le-ltb}
 use Rattle.parser.specs.Reading.{Found, no, got, stop, Reader, lit, seq, opt, verify, keep, map, mapFound, give, pick, or, Says}
 use Rattle.parser.proofs.Fields.{true≢false}
 use Rattle.parser.proofs.Says.{says-map, says-verify, says-opt, says-seq-got}
-use Rattle.duration.specs.Rules.{part, present, orZero, TimeParts, someTime, timeOf, durationBaseTime, durationTime}
+use Rattle.parser.specs.Fields.{orZero}
+use Rattle.duration.specs.Rules.{part, present, TimeParts, someTime, timeOf, durationBaseTime, durationTime}
 use Rattle.duration.specs.Answer.{timeFound, timeMore}
 use Rattle.duration.specs.Items.{itemAt, here, past, absentPart, partAt, isCut, unlessTooBig, timeParts}
 use Rattle.duration.specs.declared.DurationTimeParts.{DurationTimeParts}

@@ -9,7 +9,8 @@ use lib.Dec.{ltb}
 use Rattle.types.specs.declared.Duration.{Duration}
 use Rattle.parser.specs.Reading.{Found, no, got, stop, Reader, lit, seq, opt, lack, verify, keep, map, mapFound, give, or, Says}
 use Rattle.parser.proofs.Says.{says-map, says-verify, says-opt, says-seq-got, says-seq-no, says-seq-stop}
-use Rattle.duration.specs.Rules.{part, present, orZero, durationTime, Parts, partsRule, somePart, durationOf, duration}
+use Rattle.parser.specs.Fields.{orZero}
+use Rattle.duration.specs.Rules.{part, present, durationTime, Parts, partsRule, somePart, durationOf, duration}
 use Rattle.duration.specs.Answer.{timeFound, timeMore, durationFound, durationMore}
 use Rattle.duration.specs.Items.{itemAt, here, past, partAt, allParts}
 use Rattle.duration.specs.declared.DurationTimeParts.{DurationTimeParts}

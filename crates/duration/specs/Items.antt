@@ -8,7 +8,8 @@ use lib.Dec.{eqb, ltb}
 use Rattle.types.specs.declared.Duration.{Duration}
 use Rattle.parser.specs.Reading.{Found, no, got, stop, pick}
 use Rattle.parser.specs.Digits.{run}
-use Rattle.duration.specs.Rules.{orZero, timeOrZero}
+use Rattle.parser.specs.Fields.{orZero}
+use Rattle.duration.specs.Rules.{timeOrZero}
 use Rattle.duration.specs.declared.DurationTimeParts.{DurationTimeParts}
 use Rattle.duration.specs.declared.Item.{Item}
 use Rattle.duration.specs.declared.Item.the-variants as item
@@ -39,11 +40,14 @@ past c at item.TooBig = at
 past c at item.Wrong = at
 past c at item.Cut = at
 
+abbrev pub partOf : ℕ → ℕ → Part
+partOf v n = record { value = v; next = n }
+
 abbrev pub absentPart : ℕ → Part
-absentPart at = record { value = 0; next = at }
+absentPart at = partOf 0 at
 
 abbrev pub partAt : List ℕ → ℕ → ℕ → Part
-partAt s at c = record { value = orZero (here c (itemAt s at)); next = past c at (itemAt s at) }
+partAt s at c = partOf (orZero (here c (itemAt s at))) (past c at (itemAt s at))
 
 -- ---- the parts together
 

@@ -5,6 +5,7 @@ use mathlib.Core.Option.{Option, some, none}
 use Rattle.types.specs.declared.Duration.{Duration}
 use Rattle.parser.specs.Reading.{Reader, or, lit, seq, opt, verify, map, give}
 use Rattle.parser.specs.Digits.{run}
+use Rattle.parser.specs.Fields.{orZero}
 use Rattle.duration.specs.declared.DurationTimeParts.{DurationTimeParts}
 
 -- "A part is a digit run and its letter." A run above the limit is refusal 2 wherever a part is tried, whatever its letter.
@@ -16,11 +17,6 @@ abbrev pub present : {A : Type 0} → Option A → Bool
 present none = false
 present (some a) = true
 
--- a part that is absent is 0 in the record
-abbrev pub orZero : Option ℕ → ℕ
-orZero none = 0
-orZero (some n) = n
-
 -- "at least one of H, M, S in this order"
 pub record TimeParts : Type 0 where
   pub hours : Option ℕ
@@ -30,6 +26,7 @@ pub record TimeParts : Type 0 where
 abbrev pub someTime : TimeParts → Bool
 someTime t = or (present (t .hours)) (or (present (t .minutes)) (present (t .seconds)))
 
+-- a part that is absent is 0 in the record
 abbrev pub timeOf : TimeParts → DurationTimeParts
 timeOf t = record { hours = orZero (t .hours); minutes = orZero (t .minutes); seconds = orZero (t .seconds) }
 

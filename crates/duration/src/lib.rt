@@ -1,11 +1,13 @@
 // Durations (duration.rs).
+ghost use Prim.Native.Nat.{_+_, _<_, _≤_};
+ghost use lib.ListN.{length, getD};
 ghost use mathlib.Core.Path.{_≡_};
 ghost use Rattle.parser.specs.Reading.{no, verify, map, Says};
 ghost use Rattle.types.specs.Numbers.{numberOf};
 ghost use Rattle.parser.specs.Answer.{refused, Begins, Ended, Rest};
 ghost use Rattle.duration.specs.Rules.{durationBaseTime, durationTime, partsRule, somePart, durationOf, duration};
 ghost use Rattle.duration.specs.Answer.{timeFound, timeMore, durationFound, durationMore, durationTold};
-ghost use Rattle.duration.specs.Items.{itemAt, absentPart, partAt, isCut, unlessTooBig, timeParts, recordOf, allParts};
+ghost use Rattle.duration.specs.Items.{itemAt, partOf, absentPart, partAt, isCut, unlessTooBig, timeParts, recordOf, allParts};
 use parser::Mark;
 use parser::Run;
 use types::Duration;
@@ -121,38 +123,86 @@ fn long_part(s: &[u8], at: usize, letter: u8) -> Part
     }
 }
 
+// What `two_part` gives where the part is not there.
+const ABSENT: u32 = 254;
+
+// The number of the part of a letter, where it has two digits; ABSENT where the third byte tells that it is not there; and
+// NO_NUMBER where its whole run has to be read.
+fn two_part(s: &[u8], at: usize, letter: u8) -> u32
+    requires { ⌜ getD (now s) (at + 1) 0 ≤ 57 ⌝ }
+    ensures inside { λ r. ⌜ (r < 100 → at + 3 ≤ length (now (s .entry))) ⌝ }
+    ensures there { λ r. ⌜ (r < 100 → partAt (now (s .entry)) at letter ≡ partOf r (at + 3)) ⌝ }
+    ensures absent { λ r. ⌜ (r ≡ 254 → partAt (now (s .entry)) at letter ≡ absentPart at) ⌝ }
+{
+    if letter <= 57 {
+        return parser::NO_NUMBER;
+    }
+    if s.len() < 3 {
+        return parser::NO_NUMBER;
+    }
+    if s.len() - 3 < at {
+        return parser::NO_NUMBER;
+    }
+    let third = s[at + 2];
+    if third == letter {
+        return parser::two_digits(s[at], s[at + 1], 0, 99);
+    }
+    if third <= 57 {
+        parser::NO_NUMBER
+    } else {
+        ABSENT
+    }
+}
+
+// The part of a letter, where more than one digit may have to be read.
+fn later_part(s: &[u8], at: usize, letter: u8) -> Part
+    requires { ⌜ getD (now s) (at + 1) 0 ≤ 57 ⌝ }
+    ensures { λ r. ⌜ r ≡ partAt (now (s .entry)) at letter ⌝ }
+{
+    let two = two_part(s, at, letter);
+    if two < 100 {
+        return Part {
+            value: two,
+            next: at + 3,
+        };
+    }
+    if two == ABSENT {
+        return absent(at);
+    }
+    long_part(s, at, letter)
+}
+
 // The part of a letter. A single digit is decided by the byte behind it.
 fn duration_part(s: &[u8], at: usize, letter: u8) -> Part
     ensures { λ r. ⌜ r ≡ partAt (now (s .entry)) at letter ⌝ }
 {
-    if s.len() <= at {
+    if s.len() < 2 {
         return absent(at);
     }
-    let b = s[at];
+    if s.len() - 2 < at {
+        return absent(at);
+    }
+    let b = s[at] as u32;
     if b < 48 {
         return absent(at);
     }
     if 57 < b {
         return absent(at);
     }
-    let n = at + 1;
-    if s.len() <= n {
-        return absent(at);
-    }
-    let end = s[n];
+    let end = s[at + 1];
     if end == letter {
         if 57 < letter {
             return Part {
-                value: (b - 48) as u32,
-                next: n + 1,
+                value: b - 48,
+                next: at + 2,
             };
         }
-        return long_part(s, at, letter);
+        return later_part(s, at, letter);
     }
     if 57 < end {
         return absent(at);
     }
-    long_part(s, at, letter)
+    later_part(s, at, letter)
 }
 
 //    dur-year          = 1*DIGIT "Y" [dur-month]
