@@ -1,14 +1,12 @@
 -- The sixteen cases hold of the rules: one test over the table, which computes, and one law that makes the statement of it. What the
 -- test cannot compute, the verdict over all continuations, each kind's laws give.
-use Prim.Native.Nat.{ℕ, _≤_}
 use mathlib.Core.List.{List, [], _∷_}
-use mathlib.Core.Bool.{Bool, true, false}
 use mathlib.Core.Option.{Option, some, none}
-use mathlib.Core.Path.{_≡_, refl, sym, ap, _∙_}
+use mathlib.Core.Path.{_≡_, refl, ap}
 use native.Mathlib.Omega.{arith}
 use lib.ListN.{length}
 use Rattle.types.specs.declared.Verdict.{Verdict}
-use Rattle.parser.specs.Reading.{Reader, Says, lit, seq, opt, alt, verify, map, give}
+use Rattle.parser.specs.Reading.{lit, seq, opt, alt, verify, map, give}
 use Rattle.parser.specs.Digits.{digitsFrom, digitsMore, lowest, highest, reach, field, digits, numberFrom, run, fraction}
 use Rattle.parser.specs.Answer.{Told, begun, ended, verdictOf, Begins, Ended}
 use Rattle.parser.proofs.Stable.{Stable, map-stable}

@@ -1,10 +1,8 @@
 -- Document 01's "Cases to prove", row by row: the reader, the bytes, and what it tells of them.
 use Prim.Native.Nat.{ℕ}
 use mathlib.Core.List.{List, [], _∷_}
-use mathlib.Core.Bool.{Bool, true, false}
 use mathlib.Core.Option.{Option, some, none}
-use lib.IntN.{ℤ, pos, negℤ}
-use lib.ListN.{length}
+use lib.IntN.{pos, negℤ}
 use Rattle.types.specs.declared.Verdict.{Verdict}
 use Rattle.types.specs.declared.Verdict.the-variants.{Settled, Open}
 use Rattle.types.specs.declared.Offset.{Offset}

@@ -1,8 +1,8 @@
 -- From what a reader promises to what its function does: the count fits a slot, and the stores leave what the answer says.
-use Prim.Native.Nat.{ℕ, suc, _+_, _≤_, _<_, _^_}
+use Prim.Native.Nat.{ℕ, suc, _+_, _≤_, _<_}
 use mathlib.Core.Bool.{Bool, true, false}
 use mathlib.Core.List.{List, [], _∷_}
-use mathlib.Core.Path.{_≡_, refl, sym, ap, _∙_}
+use mathlib.Core.Path.{_≡_, refl, ap, _∙_}
 use native.Mathlib.Omega.{arith}
 use lib.Dec.{ltb}
 use lib.IntN.{ℤ, pos}
@@ -18,7 +18,7 @@ use Rattle.types.specs.declared.Date.the-variants.{YMD, Week, Ordinal}
 use Rattle.parser.specs.Reading.{Reader, Found, no, got, stop, pick}
 use Rattle.parser.specs.Answer.{Told, recorded, refused, begun, ended, Begins, Ended}
 use Rattle.parser.proofs.Places.{Bounded}
-use Rattle.exports.specs.Slots.{dateTimeSlots, timeSlots, timeOffsetSlots, dateSlots, verdictSlot, noVerdict, answerSlots, over, Answered, BeginsIn, EndsIn}
+use Rattle.exports.specs.Slots.{dateTimeSlots, timeSlots, timeOffsetSlots, dateSlots, verdictSlot, noVerdict, answerSlots, Answered, BeginsIn, EndsIn}
 use Rattle.exports.proofs.Stores.{sets-over}
 
 -- ---- a record takes as many slots as its kind has

@@ -1,5 +1,5 @@
 -- No two outcomes meet one promise: the slots and the number are fixed by the bytes and by what the slots held before.
-use Prim.Native.Nat.{ℕ, _≤_, _<_}
+use Prim.Native.Nat.{ℕ}
 use mathlib.Core.Bool.{Bool, true, false}
 use mathlib.Core.List.{List}
 use mathlib.Core.Path.{_≡_, refl, sym, ap, _∙_}
@@ -9,7 +9,7 @@ use lib.ListN.{length}
 use borrow.Author.Tests.{ltb-true, ltb-false}
 use Rattle.types.specs.declared.Verdict.{Verdict}
 use Rattle.parser.specs.Reading.{Reader}
-use Rattle.parser.specs.Answer.{Told, begun, Begins, Judged}
+use Rattle.parser.specs.Answer.{Told, begun, Judged}
 use Rattle.parser.proofs.Verdict.{begins-once}
 use Rattle.exports.specs.Slots.{verdictSlot, answerSlots, over, Answered, BeginsIn, EndsIn}
 

@@ -1,10 +1,10 @@
 -- Runs of stores: a run goes on where another ended, and one from slot 0 leaves the first slots anew and the others as they were.
 use Prim.Native.Nat.{ℕ, suc, _+_, _≤_}
 use mathlib.Core.List.{List, [], _∷_, _++_}
-use mathlib.Core.Path.{_≡_, refl, sym, ap, _∙_}
+use mathlib.Core.Path.{_≡_, ap, _∙_}
 use native.Mathlib.Omega.{arith}
 use lib.IntN.{ℤ}
-use lib.ListN.{length, set, drop}
+use lib.ListN.{length, set}
 use lib.Seq.{sets, sets-eq}
 use Rattle.exports.specs.Slots.{over}
 

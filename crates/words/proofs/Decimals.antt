@@ -1,6 +1,6 @@
 -- The fewest digits that hold a number, as the kit's `decimal` spells them, are its decimal digits; and a signed number is its size behind
 -- its sign.
-use Prim.Native.Nat.{ℕ, zero, suc, _-_, _/_, _%_, _^_, _≤_, _<_}
+use Prim.Native.Nat.{ℕ, zero, suc, _/_, _%_, _^_, _≤_, _<_}
 use mathlib.Core.Path.{_≡_}
 use native.Mathlib.Nat.{pow-suc, pow-le-pow-right, lt-of-not-le}
 use native.Mathlib.Numerals.{sub-one}

@@ -1,5 +1,5 @@
 -- A number below 0 is minus one more than some k, where k fits as the number does; and what code computes of such a number.
-use Prim.Native.Nat.{ℕ, zero, suc, _+_, _<_, _^_}
+use Prim.Native.Nat.{ℕ, zero, suc, _<_, _^_}
 use mathlib.Core.Bool.{true, false}
 use mathlib.Core.List.{_∷_}
 use mathlib.Core.Path.{_≡_, refl, ap, _∙_}

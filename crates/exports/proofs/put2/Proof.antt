@@ -1,5 +1,4 @@
 -- The stores are the run itself, since each value fits its slot.
-use mathlib.Core.Path.{_≡_, refl, sym, ap, _∙_}
 use native.Mathlib.Omega.{arith}
 use mir.Syntax.{w64}
 use mir.Val.{SFits}

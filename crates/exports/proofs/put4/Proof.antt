@@ -1,6 +1,5 @@
 -- The stores are the run itself, since each value fits its slot.
 use Rattle.exports.proofs.Stores.{two-on, three-on}
-use mathlib.Core.Path.{_≡_, refl, sym, ap, _∙_}
 use native.Mathlib.Omega.{arith}
 use mir.Syntax.{w64}
 use mir.Val.{SFits}

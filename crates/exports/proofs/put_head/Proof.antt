@@ -1,7 +1,7 @@
 -- The count lies in the lower half of 64 bits.
 use mir.Facts.{toZ-ofZ, toZ-pos}
 use mir.Val.{SFits}
-use mathlib.Core.Path.{_≡_, refl, sym, ap, _∙_}
+use mathlib.Core.Path.{_∙_}
 use native.Mathlib.Omega.{arith}
 use mir.Syntax.{w64}
 use borrow.Author.Needs.{needs}

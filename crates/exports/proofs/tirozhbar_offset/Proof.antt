@@ -3,9 +3,8 @@ use Rattle.exports.proofs.Laws.{begins-few, begins-record, begins-refus
 use Rattle.exports.specs.Slots.{offsetSlots}
 use Rattle.offset.proofs.Laws.{offset-bounded}
 use Rattle.offset.specs.Rules.{offset}
-use Prim.Native.Nat.{ℕ, _+_}
 use native.Mathlib.Omega.{arith}
-use mathlib.Core.Path.{refl, ap, _∙_}
+use mathlib.Core.Path.{refl, _∙_}
 use mir.Facts.{toZ-ofZ}
 use mir.Syntax.{w64}
 use mir.Val.{SFits}

@@ -5,7 +5,7 @@ use Rattle.date.proofs.Laws.{date-bounded}
 use Rattle.date.specs.Rules.{date}
 use Prim.Native.Nat.{ℕ, _+_}
 use native.Mathlib.Omega.{arith}
-use mathlib.Core.Path.{refl, ap, _∙_}
+use mathlib.Core.Path.{ap}
 use borrow.Author.Needs.{needs}
 use Rattle.exports.proofs.tirozhbar_parse_date.Statement.{statement}
 use Rattle.exports.proofs.tirozhbar_parse_date.Tie as tie

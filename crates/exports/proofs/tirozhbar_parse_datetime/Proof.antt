@@ -5,7 +5,7 @@ use Rattle.datetime.proofs.Laws.{datetime-bounded}
 use Rattle.datetime.specs.Rules.{dateTime}
 use Prim.Native.Nat.{ℕ, _+_}
 use native.Mathlib.Omega.{arith}
-use mathlib.Core.Path.{refl, ap, _∙_}
+use mathlib.Core.Path.{ap}
 use borrow.Author.Needs.{needs}
 use Rattle.exports.proofs.tirozhbar_parse_datetime.Statement.{statement}
 use Rattle.exports.proofs.tirozhbar_parse_datetime.Tie as tie

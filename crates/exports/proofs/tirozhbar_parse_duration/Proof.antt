@@ -3,9 +3,8 @@ use Rattle.exports.proofs.Laws.{ends-few, ends-record, ends-refusal, en
 use Rattle.exports.specs.Slots.{durationSlots}
 use Rattle.duration.proofs.Laws.{duration-bounded}
 use Rattle.duration.specs.Rules.{duration}
-use Prim.Native.Nat.{ℕ, _+_}
 use native.Mathlib.Omega.{arith}
-use mathlib.Core.Path.{refl, ap, _∙_}
+use mathlib.Core.Path.{refl}
 use borrow.Author.Needs.{needs}
 use Rattle.exports.proofs.tirozhbar_parse_duration.Statement.{statement}
 use Rattle.exports.proofs.tirozhbar_parse_duration.Tie as tie

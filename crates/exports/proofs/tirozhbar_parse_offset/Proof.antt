@@ -3,9 +3,8 @@ use Rattle.exports.proofs.Laws.{ends-few, ends-record, ends-refusal, en
 use Rattle.exports.specs.Slots.{offsetSlots}
 use Rattle.offset.proofs.Laws.{offset-bounded}
 use Rattle.offset.specs.Rules.{offset}
-use Prim.Native.Nat.{ℕ, _+_}
 use native.Mathlib.Omega.{arith}
-use mathlib.Core.Path.{refl, ap, _∙_}
+use mathlib.Core.Path.{refl}
 use borrow.Author.Needs.{needs}
 use Rattle.exports.proofs.tirozhbar_parse_offset.Statement.{statement}
 use Rattle.exports.proofs.tirozhbar_parse_offset.Tie as tie

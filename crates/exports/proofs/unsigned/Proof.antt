@@ -1,5 +1,4 @@
 -- A number of 32 bits lies in the lower half of 64.
-use mathlib.Core.Path.{_≡_, refl, sym, ap, _∙_}
 use native.Mathlib.Omega.{arith}
 use mir.Syntax.{w64}
 use mir.Facts.{toZ-pos}

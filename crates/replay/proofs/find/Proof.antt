@@ -1,9 +1,7 @@
 -- The loop stays within what it was lent.
-use Prim.Native.Nat.{_-_, _≤_, _+_}
-use mathlib.Core.Path.{_≡_}
+use Prim.Native.Nat.{_-_}
 use lib.ListN.{length}
 use borrow.Author.Needs.{needs}
-use native.Mathlib.Omega.{arith}
 use Rattle.replay.proofs.find.Statement.{statement}
 use Rattle.replay.proofs.find.Tie as tie
 

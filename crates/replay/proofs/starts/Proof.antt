@@ -1,9 +1,6 @@
 -- The loop stays within what it was lent.
-use Prim.Native.Nat.{_-_, _≤_, _+_}
-use mathlib.Core.Path.{_≡_}
-use lib.ListN.{length}
+use Prim.Native.Nat.{_-_}
 use borrow.Author.Needs.{needs}
-use native.Mathlib.Omega.{arith}
 use Rattle.replay.proofs.starts.Statement.{statement}
 use Rattle.replay.proofs.starts.Tie as tie
 

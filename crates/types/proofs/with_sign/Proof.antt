@@ -1,11 +1,11 @@
 -- A number of 16 bits and its negation both fit 32 bits with a sign, so the machine's bits read back as they were meant.
 use Prim.Native.Nat.{ℕ, _<_, _^_}
-use mathlib.Core.Path.{_≡_, _∙_}
+use mathlib.Core.Path.{_∙_}
 use native.Mathlib.Omega.{arith}
 use borrow.Author.Needs.{needs}
-use lib.IntN.{pos, negℤ, _-ℤ_, +ℤ-idl}
+use lib.IntN.{pos, _-ℤ_, +ℤ-idl}
 use mir.Syntax.{w32}
-use mir.Val.{SFits, toZ, ofZ}
+use mir.Val.{SFits, toZ}
 use mir.Facts.{toZ-ofZ, toZ-pos}
 use Rattle.types.proofs.Signed.{neg-mag}
 use Rattle.types.proofs.with_sign.Statement.{statement}

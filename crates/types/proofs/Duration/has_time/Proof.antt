@@ -1,6 +1,6 @@
 -- Each return by the tests that led there.
 use native.Mathlib.Omega.{arith}
-use borrow.Author.Tests.{lt-ltb, le-ltb, eq-eqb, ne-eqb}
+use borrow.Author.Tests.{lt-ltb, le-ltb}
 use Rattle.types.specs.Sums.{hasTime}
 use Rattle.types.proofs.Duration.has_time.Statement.{statement}
 use Rattle.types.proofs.Duration.has_time.Tie as tie

@@ -1,6 +1,6 @@
 -- Each return by the tests that led there.
 use native.Mathlib.Omega.{arith}
-use borrow.Author.Tests.{lt-ltb, le-ltb, eq-eqb, ne-eqb}
+use borrow.Author.Tests.{eq-eqb, ne-eqb}
 use Rattle.types.specs.Sums.{isZero}
 use Rattle.types.proofs.Duration.is_zero.Statement.{statement}
 use Rattle.types.proofs.Duration.is_zero.Tie as tie

@@ -1,13 +1,13 @@
 -- Each return by the tests on the minutes in all, which are read back from their bits as they were.
-use mathlib.Core.Path.{_≡_, sym, _∙_}
-use mathlib.Core.Bool.{Bool, true, false, not}
+use mathlib.Core.Path.{_≡_, sym}
+use mathlib.Core.Bool.{true, false}
 use borrow.Author.Needs.{needs}
-use lib.IntN.{ℤ, pos, negsuc}
-use lib.Signed.{ltZ, leZ}
+use lib.IntN.{negsuc}
+use lib.Signed.{ltZ}
 use mir.Syntax.{w64}
-use mir.Val.{SFits, toZ, ofZ}
+use mir.Val.{toZ, ofZ}
 use mir.Facts.{toZ-ofZ}
-use Rattle.types.specs.Sums.{inRange, minutesInAll}
+use Rattle.types.specs.Sums.{inRange}
 use Rattle.types.proofs.Offset.in_range.Statement.{statement}
 use Rattle.types.proofs.Offset.in_range.Tie as tie
 

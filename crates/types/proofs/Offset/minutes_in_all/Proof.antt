@@ -1,10 +1,8 @@
 -- Fields of 32 bits keep every step within 64 bits, so the machine's bits read back as they were meant.
-use Prim.Native.Nat.{_<_, _^_}
 use mathlib.Core.Path.{_≡_, _∙_}
 use native.Mathlib.Omega.{arith}
 use borrow.Author.Needs.{needs}
 use lib.IntN.{ℤ, pos, _+ℤ_, _*ℤ_}
-use lib.Signed.{mag}
 use mir.Syntax.{w32, w64}
 use mir.Val.{SFits, toZ, ofZ}
 use mir.Facts.{toZ-ofZ}
