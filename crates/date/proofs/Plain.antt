@@ -16,12 +16,11 @@ use Rattle.types.specs.declared.Date.the-variants.{YMD, Week, Ordinal}
 use Rattle.parser.specs.Reading.{no, got, lit, seq, opt, map, Says}
 use Rattle.parser.specs.Digits.{isDigit, field}
 use Rattle.parser.specs.Fields.{month, day, signed}
-use Rattle.parser.specs.Read.{placeAfter}
 use Rattle.parser.proofs.Alike.{alike-says}
 use Rattle.parser.proofs.Fields.{OtherAt}
 use Rattle.parser.proofs.Says.{says-map, says-opt, says-seq-got, says-seq-no, says-alt-no}
-use Rattle.parser.proofs.Two.{picked-first, picked-second, two-is, twoAt, two-field, four-field, three-cut, digit-no}
-use Rattle.date.specs.Rules.{minus, digitsOfYear, year, dash, weekOfYear, week, dayOfWeek, weekAndDay, dayOfYear, ordinal, dayOfMonth, monthAndDay, date}
+use Rattle.parser.proofs.Two.{picked-first, picked-second, two-is, twoAt, two-field, four-field, three-cut, digit-no, past-byte}
+use Rattle.date.specs.Rules.{minus, digitsOfYear, year, weekOfYear, week, dayOfWeek, weekAndDay, dayOfYear, ordinal, dayOfMonth, monthAndDay, date}
 use Rattle.date.specs.Answer.{afterYear}
 use Rattle.date.specs.Plain.{plainDate}
 use Rattle.date.specs.declared.PlainDate.the-variants.{Got, Other}
@@ -78,10 +77,6 @@ module _ (s : List ℕ) (x : Seen s) where
       says-seq-got (opt signed) s 0 (λ o. digitsOfYear (minus o)) none 0 false (got (pos n) 4) false (says-opt signed s 0 no false says-sign)
       (says-map (field 4 100 9999) s 0 (withSign false) (got n 4) false (four-field s 0 (omega (arith, x .long)) (x .century) (x .rest)))
 
-  past-dash : (at : ℕ) → at < length s → eqb (getD s at 0) 45 ≡ true → at + 1 ≡ placeAfter at (dash .reads s at)
-  unfolding lit
-  past-dash at l e = simp (lt-ltb at (length s) l, e)
-
   module _ (y : ℤ) where
     says-week : Says (weekAndDay y) s 5 no false
     unfolding weekAndDay
@@ -101,13 +96,13 @@ module _ (s : List ℕ) (x : Seen s) where
         let m = twoAt s 5 1 12 in
         says-seq-got month s 5 (λ m. map (λ d. YMD y m d) dayOfMonth) m 7 false _ false (two-field s 5 1 12 (omega (arith, x .long)) (x .month))
         (says-map dayOfMonth s 7 (λ d. YMD y m d) _ false
-        (of-day s 7 8 (got (twoAt s 8 1 31) 10) false (past-dash 7 (omega (arith, x .long)) (x .second)) (two-field s 8 1 31 (omega (arith, x .long)) (x .day))))
+        (of-day s 7 8 (got (twoAt s 8 1 31) 10) false (past-byte s 7 45 (omega (arith, x .long)) (x .second)) (two-field s 8 1 31 (omega (arith, x .long)) (x .day))))
 
   says-seen : Says date s 0 (got (valueOf s) 10) false
   says-seen =
       alike-says date (seq year afterYear) date-alike s 0 _ _
       (says-seq-got year s 0 afterYear (pos n) 4 false _ false says-year
-      (says-after-dash (pos n) s 4 5 (past-dash 4 (omega (arith, x .long)) (x .first)) _ _ (omega arith) (says-week (pos n))
+      (says-after-dash (pos n) s 4 5 (past-byte s 4 45 (omega (arith, x .long)) (x .first)) _ _ (omega arith) (says-week (pos n))
       (says-alt-no (ordinal (pos n)) s 5 (monthAndDay (pos n)) false _ false (says-ordinal (pos n)) (says-month (pos n)))))
 
 pub plain-says : (s : List ℕ) (d : Date) → plainDate s ≡ Got d → Says date s 0 (got d 10) false

@@ -1,18 +1,18 @@
 -- A plain date, `T` and a plain time are what the rule reads.
-use Prim.Native.Nat.{ℕ, _<_}
+use Prim.Native.Nat.{ℕ}
 use mathlib.Core.List.{List}
-use mathlib.Core.Bool.{Bool, true, false}
+use mathlib.Core.Bool.{Bool, false}
 use mathlib.Core.Path.{_≡_, refl}
 use native.Mathlib.Omega.{arith}
 use lib.ListN.{length, getD}
 use lib.Dec.{ltb, eqb}
-use borrow.Author.Tests.{ltb-false, lt-ltb}
+use borrow.Author.Tests.{ltb-false}
 use Rattle.types.specs.declared.Date.{Date}
 use Rattle.types.specs.declared.Time.{Time}
 use Rattle.types.specs.declared.DateTime.{DateTime}
 use Rattle.parser.specs.Reading.{got, lit, Says}
 use Rattle.parser.proofs.Says.{says-map, says-seq-got}
-use Rattle.parser.proofs.Two.{picked-first, picked-second}
+use Rattle.parser.proofs.Two.{picked-first, picked-second, byte-says}
 use Rattle.date.specs.Rules.{date}
 use Rattle.date.specs.declared.PlainDate.{PlainDate}
 use Rattle.date.specs.declared.PlainDate.the-variants as date
@@ -40,17 +40,13 @@ once : {x y : DateTime} {k n : ℕ} {l m : Bool} → Got x k l ≡ Got y n m →
 once e = record { value = cc; next = cc; more = cc }
 
 module _ (s : List ℕ) where
-  t-says : 10 < length s → eqb (getD s 10 0) 84 ≡ true → Says (lit 84) s 10 (got tt 11) false
-  unfolding lit
-  t-says l e = let i = lt-ltb 10 (length s) l in record { found = simp (i, e); more = simp i }
-
   both : (d : Date) (t : Time) (n : ℕ) (m : Bool) → dateOfStamp s ≡ date.Got d → plainAt s 11 ≡ time.Got t n m → Says dateTime s 0 (got (stamp d t) n) m
   unfolding dateOfStamp dateTime afterDate timeOf
   both d t n m e f =
       let a = picked-second (ltb (length s) 19) no-date e in
       let b = picked-first (eqb (getD s 10 0) 84) no-date (a .1) in
       says-seq-got date s 0 afterDate d 10 false _ m (plain-says s d (b .1))
-      (says-seq-got (lit 84) s 10 (λ _. timeOf d) tt 11 false _ m (t-says (omega (arith, ltb-false (length s) 19 (a .0))) (b .0))
+      (says-seq-got (lit 84) s 10 (λ _. timeOf d) tt 11 false _ m (byte-says s 10 84 (omega (arith, ltb-false (length s) 19 (a .0))) (b .0))
       (says-map baseTime s 11 (stamp d) _ m (plain-base s 11 t n m f .says)))
 
   pub stamp-says : (x : DateTime) (n : ℕ) (m : Bool) → plainStamp s ≡ Got x n m → Says dateTime s 0 (got x n) m

@@ -12,10 +12,8 @@ use Rattle.types.specs.Sums.{signedOffset, zeroOffset}
 use Rattle.parser.specs.Reading.{no, got, lit, seq, opt, alt, verify, map, pick, Says}
 use Rattle.parser.specs.Digits.{twoDigits, reach, lowest, highest}
 use Rattle.parser.specs.Fields.{hour, minute, signed, precededBy, orZero}
-use Rattle.parser.specs.Read.{placeAfter}
 use Rattle.parser.proofs.Says.{says-map, says-opt, says-verify, says-seq-got, says-alt-got}
-use Rattle.parser.proofs.General.{field-eager, says-past}
-use Rattle.parser.proofs.Two.{picked-first, picked-second, picked-neither, two-field}
+use Rattle.parser.proofs.Two.{picked-first, picked-second, picked-neither, two-field, preceded-two}
 use Rattle.offset.specs.Rules.{allowed, offsetMinute, offsetHour, offsetZulu, offset}
 use Rattle.offset.specs.Plain.{plainSigned, plainOffset}
 use Rattle.offset.specs.declared.PlainOffset.the-variants.{End, Got, Other}
@@ -91,17 +89,13 @@ module _ (s : List ℕ) (at : ℕ) where
         let q : at + 1 + 2 ≡ at + 3 = omega arith in
         rw (p, q) at (two-field s (at + 1) 0 23 (omega (arith, x .long)) (rw p (x .hours)))
 
-    past-colon : at + 4 ≡ placeAfter (at + 3) (lit 58 .reads s (at + 3))
-    unfolding lit
-    past-colon = let p : at + 3 + 1 ≡ at + 4 = omega arith in simp (lt-ltb (at + 3) (length s) (omega (arith, x .long)), x .colon, p)
-
     minute-says : Says (precededBy 58 minute) s (at + 3) (got k (at + 6)) false
     unfolding reach lowest highest
     minute-says =
-        let p : at + 4 + 1 ≡ at + 5 = omega arith in
-        let q : at + 4 + 2 ≡ at + 6 = omega arith in
-        says-past 58 minute (field-eager 2 0 59 (omega arith) refl) s (at + 3) (at + 4) _ false past-colon
-        (rw (p, q) at (two-field s (at + 4) 0 59 (omega (arith, x .long)) (rw p (x .minutes))))
+        let p : at + 3 + 1 ≡ at + 4 = omega arith in
+        let q : at + 3 + 2 ≡ at + 5 = omega arith in
+        let r : at + 3 + 3 ≡ at + 6 = omega arith in
+        rw (p, q, r) at (preceded-two s (at + 3) 58 0 59 (omega (arith, x .long)) (x .colon) refl (rw (p, q) (x .minutes)))
 
     rest-says : Says (offsetMinute m h) s (at + 3) (got (valueOf m) (at + 6)) false
     unfolding offsetMinute

@@ -2,14 +2,18 @@
 use Prim.Native.Nat.{ℕ, _+_, _*_, _-_, _<_, _≤_}
 use mathlib.Core.List.{List}
 use mathlib.Core.Bool.{Bool, true, false}
-use mathlib.Core.Path.{_≡_, refl, sym, _∙_}
+use mathlib.Core.Path.{_≡_, refl, sym}
 use native.Mathlib.Omega.{arith}
 use lib.ListN.{length, getD}
 use lib.Dec.{leb, eqb}
-use borrow.Author.Tests.{leb-true, lt-ltb, le-leb, ne-eqb}
+use borrow.Author.Tests.{leb-true, lt-ltb, le-leb}
 use Rattle.parser.specs.Reading.{no, got, lit, pick, and, within, Says}
-use Rattle.parser.specs.Digits.{isDigit, digitsFrom, digitsMore, field, twoNumber, twoDigits}
+use Rattle.parser.specs.Digits.{isDigit, digitsFrom, digitsMore, reach, field, twoNumber, twoDigits}
+use Rattle.parser.specs.Fields.{precededBy}
+use Rattle.parser.specs.Read.{placeAfter}
 use Rattle.parser.proofs.Fields.{true≢false, and-first, and-second, DigitAt, OtherAt}
+use Rattle.parser.proofs.Leaves.{digit-is-not}
+use Rattle.parser.proofs.General.{field-eager, says-past}
 
 -- a choice that did not fall on what it is not
 pub picked-second : {A : Type 0} (t : Bool) {x y g : A} → (x ≡ g → ⊥) → pick t x y ≡ g → (t ≡ false) × (y ≡ g)
@@ -90,8 +94,8 @@ abbrev pub twoAt : List ℕ → ℕ → ℕ → ℕ → ℕ
 twoAt s at lo hi = twoDigits (getD s at 0) (getD s (at + 1) 0) lo hi
 
 module _ (s : List ℕ) (at : ℕ) where
-  first-digit : (a : ℕ) → a < length s → isDigit (getD s a 0) ≡ true → DigitAt s a
-  first-digit a l e = record { inside = lt-ltb a (length s) l; is = e }
+  digit-here : (a : ℕ) → a < length s → isDigit (getD s a 0) ≡ true → DigitAt s a
+  digit-here a l e = record { inside = lt-ltb a (length s) l; is = e }
 
   -- a field of two
   pub two-field : (lo hi : ℕ) → at + 1 < length s → eqb (twoAt s at lo hi) 255 ≡ false → Says (field 2 lo hi) s at (got (twoAt s at lo hi) (at + 2)) false
@@ -99,8 +103,8 @@ module _ (s : List ℕ) (at : ℕ) where
   two-field lo hi l e =
       let t = two-is (getD s at 0) (getD s (at + 1) 0) lo hi e in
       let v = two-some (getD s at 0) (getD s (at + 1) 0) lo hi t in
-      let d = first-digit at (omega (arith, l)) (t .first) in
-      let f = first-digit (at + 1) l (t .second) in
+      let d = digit-here at (omega (arith, l)) (t .first) in
+      let f = digit-here (at + 1) l (t .second) in
       let n : (0 * 10 + (getD s at 0 - 48)) * 10 + (getD s (at + 1) 0 - 48) ≡ twoNumber (getD s at 0) (getD s (at + 1) 0) = omega arith in
       let p : at + 1 + 1 ≡ at + 2 = omega arith in
       record { found = simp (v, d .inside, d .is, f .inside, f .is, n, p, t .inside); more = simp (d .inside, d .is, f .inside, f .is) }
@@ -117,10 +121,10 @@ module _ (s : List ℕ) (at : ℕ) where
       let u = two-is c g 0 99 k in
       let x = two-ends t in
       let y = two-ends u in
-      let d0 = first-digit at (omega (arith, l)) (t .first) in
-      let d1 = first-digit (at + 1) (omega (arith, l)) (t .second) in
-      let d2 = first-digit (at + 2) (omega (arith, l)) (u .first) in
-      let d3 = first-digit (at + 2 + 1) (omega (arith, l)) (u .second) in
+      let d0 = digit-here at (omega (arith, l)) (t .first) in
+      let d1 = digit-here (at + 1) (omega (arith, l)) (t .second) in
+      let d2 = digit-here (at + 2) (omega (arith, l)) (u .first) in
+      let d3 = digit-here (at + 2 + 1) (omega (arith, l)) (u .second) in
       let p1 : at + 1 + 1 ≡ at + 2 = omega arith in
       let p2 : at + 2 + 1 + 1 ≡ at + 4 = omega arith in
       let n : (((0 * 10 + (a - 48)) * 10 + (b - 48)) * 10 + (c - 48)) * 10 + (g - 48) ≡ twoNumber a b * 100 + twoNumber c g = omega arith in
@@ -132,8 +136,8 @@ module _ (s : List ℕ) (at : ℕ) where
   unfolding field digitsFrom digitsMore
   three-cut lo hi lo' hi' l e o =
       let t = two-is (getD s at 0) (getD s (at + 1) 0) lo' hi' e in
-      let d = first-digit at (omega (arith, l)) (t .first) in
-      let f = first-digit (at + 1) l (t .second) in
+      let d = digit-here at (omega (arith, l)) (t .first) in
+      let f = digit-here (at + 1) l (t .second) in
       let p : at + 1 + 1 ≡ at + 2 = omega arith in
       record { found = simp (d .inside, d .is, f .inside, f .is, p, o .inside, o .is); more = simp (d .inside, d .is, f .inside, f .is, p, o .inside, o .is) }
 
@@ -151,13 +155,28 @@ two-most a b lo hi = go (isDigit a) (isDigit b) (within lo hi (twoNumber a b)) r
 pub within-255 : (r a b lo hi : ℕ) → r ≡ twoDigits a b lo hi → r ≤ 255
 within-255 r a b lo hi e = omega (arith, e, two-most a b lo hi)
 
--- ---- a digit is no other byte
-
-clash : {t : Bool} → t ≡ true → t ≡ false → ⊥
-clash e f = true≢false (sym e ∙ f)
+-- ---- single bytes
 
 pub digit-no : (s : List ℕ) (at c : ℕ) → at < length s → isDigit (getD s at 0) ≡ true → isDigit c ≡ false → Says (lit c) s at no false
 unfolding lit
 digit-no s at c l d k =
-    let other : eqb (getD s at 0) c ≡ false = ne-eqb (getD s at 0) c (λ z. clash (rw z at d) k) in
+    let other = digit-is-not c k (getD s at 0) d in
     record { found = simp (lt-ltb at (length s) l, other); more = simp (lt-ltb at (length s) l) }
+
+-- a byte that stands there
+module _ (s : List ℕ) (at c : ℕ) (l : at < length s) (e : eqb (getD s at 0) c ≡ true) where
+  pub byte-says : Says (lit c) s at (got tt (at + 1)) false
+  unfolding lit
+  byte-says = record { found = simp (lt-ltb at (length s) l, e); more = simp (lt-ltb at (length s) l) }
+
+  pub past-byte : at + 1 ≡ placeAfter at (lit c .reads s at)
+  unfolding lit
+  past-byte = simp (lt-ltb at (length s) l, e)
+
+-- such a byte in front of two digits
+pub preceded-two : (s : List ℕ) (at c lo hi : ℕ) → at + 3 ≤ length s → eqb (getD s at 0) c ≡ true → reach lo hi 2 0 ≡ true → eqb (twoDigits (getD s (at + 1) 0) (getD s (at + 2) 0) lo hi) 255 ≡ false → Says (precededBy c (field 2 lo hi)) s at (got (twoDigits (getD s (at + 1) 0) (getD s (at + 2) 0) lo hi) (at + 3)) false
+preceded-two s at c lo hi l e r t =
+    let p : at + 1 + 1 ≡ at + 2 = omega arith in
+    let q : at + 1 + 2 ≡ at + 3 = omega arith in
+    says-past c (field 2 lo hi) (field-eager 2 lo hi (omega arith) r) s at (at + 1) _ false (past-byte s at c (omega (arith, l)) e)
+    (rw (p, q) at (two-field s (at + 1) lo hi (omega (arith, l)) (rw p t)))

@@ -11,12 +11,11 @@ use borrow.Author.Tests.{ltb-false, lt-ltb, le-ltb, eqb-true}
 use Rattle.types.specs.declared.Time.{Time}
 use Rattle.types.specs.declared.TimeOffset.the-variants.{Absent, Given}
 use Rattle.parser.specs.Reading.{no, got, Reader, lit, seq, opt, alt, or, Says}
-use Rattle.parser.specs.Digits.{isDigit, twoDigits, field, fraction, reach, lowest, highest}
+use Rattle.parser.specs.Digits.{isDigit, twoDigits, fraction, reach, lowest, highest}
 use Rattle.parser.specs.Fields.{hour, minute, second, either, precededBy, orZero}
 use Rattle.parser.proofs.Fields.{OtherAt}
 use Rattle.parser.proofs.Says.{says-map, says-opt, says-seq-got, says-seq-no}
-use Rattle.parser.proofs.General.{Eager, field-eager, says-past}
-use Rattle.parser.proofs.Two.{picked-first, picked-second, two-is, two-field, digit-no}
+use Rattle.parser.proofs.Two.{picked-first, picked-second, two-is, two-field, preceded-two, digit-no}
 use Rattle.parser.proofs.Thousandths.{three-end, three-other}
 use Rattle.offset.specs.Rules.{offset}
 use Rattle.offset.specs.Plain.{plainOffset}
@@ -189,22 +188,13 @@ module _ (s : List ℕ) (at h m x : ℕ) where
     hour-says : Says hour s at (got h (at + 2)) false
     hour-says = rw (y .hour) at (two-field s at 0 23 (omega (arith, y .long)) (y .hours))
 
-    -- a colon and a field behind it
-    after-colon-says : (k hi v : ℕ) → k + 3 ≤ length s → eqb (getD s k 0) 58 ≡ true → Eager (field 2 0 hi) → eqb (twoDigits (getD s (k + 1) 0) (getD s (k + 2) 0) 0 hi) 255 ≡ false → twoDigits (getD s (k + 1) 0) (getD s (k + 2) 0) 0 hi ≡ v → Says (precededBy 58 (field 2 0 hi)) s k (got v (k + 3)) false
-    unfolding lit
-    after-colon-says k hi v l e eager t w =
-        let p : k + 1 + 1 ≡ k + 2 = omega arith in
-        let q : k + 1 + 2 ≡ k + 3 = omega arith in
-        says-past 58 (field 2 0 hi) eager s k (k + 1) _ false (simp (lt-ltb k (length s) (omega (arith, l)), e))
-        (rw (p, q, w) at (two-field s (k + 1) 0 hi (omega (arith, l)) (rw p t)))
-
     minute-says : Says (precededBy 58 minute) s (at + 2) (got m (at + 5)) false
     unfolding reach lowest highest
     minute-says =
         let p : at + 2 + 1 ≡ at + 3 = omega arith in
         let q : at + 2 + 2 ≡ at + 4 = omega arith in
         let r : at + 2 + 3 ≡ at + 5 = omega arith in
-        rw r at (after-colon-says (at + 2) 59 m (omega (arith, y .long)) (y .first) (field-eager 2 0 59 (omega arith) refl) (rw (p, q) (y .minutes)) (rw (p, q) (y .minute)))
+        rw (p, q, r, y .minute) at (preceded-two s (at + 2) 58 0 59 (omega (arith, y .long)) (y .first) refl (rw (p, q) (y .minutes)))
 
     second-says : Says (precededBy 58 second) s (at + 5) (got x (at + 8)) false
     unfolding reach lowest highest
@@ -212,7 +202,7 @@ module _ (s : List ℕ) (at h m x : ℕ) where
         let p : at + 5 + 1 ≡ at + 6 = omega arith in
         let q : at + 5 + 2 ≡ at + 7 = omega arith in
         let r : at + 5 + 3 ≡ at + 8 = omega arith in
-        rw r at (after-colon-says (at + 5) 60 x (omega (arith, y .long)) (y .second) (field-eager 2 0 60 (omega arith) refl) (rw (p, q) (y .seconds)) (rw (p, q) (y .last)))
+        rw (p, q, r, y .last) at (preceded-two s (at + 5) 58 0 60 (omega (arith, y .long)) (y .second) refl (rw (p, q) (y .seconds)))
 
     base-says : (n place : ℕ) (t : Time) (next : ℕ) (more : Bool) → Says (millisecond m x) s (at + 8) (got (clockWith m x n) place) more → Tail s place h m x n t next more → Says baseTime s at (got t next) more
     unfolding baseTime afterHour minuteSecondMillisecond secondMillisecond
