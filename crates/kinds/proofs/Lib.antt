@@ -1,0 +1,3 @@
+pub mod As
+pub mod Laws
+pub mod Once

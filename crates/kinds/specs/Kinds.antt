@@ -1,0 +1,55 @@
+-- The rule of each kind, as a reader of records of any kind, and what the code's answers tell.
+use Prim.Native.Nat.{ℕ}
+use mathlib.Core.Option.{Option, some, none}
+use lib.Dec.{eqb}
+use Rattle.types.specs.Numbers.{numberOf}
+use Rattle.parser.specs.Reading.{Reader, map, pick}
+use Rattle.parser.specs.Answer.{Told, recorded, refused}
+use Rattle.date.specs.Rules.{date}
+use Rattle.time.specs.Rules.{time}
+use Rattle.offset.specs.Rules.{offset}
+use Rattle.datetime.specs.Rules.{dateTime}
+use Rattle.duration.specs.Rules.{duration}
+use Rattle.kinds.specs.declared.answer.Kind.{Kind}
+use Rattle.kinds.specs.declared.answer.Kind.the-variants as kind
+use Rattle.kinds.specs.declared.answer.Record.{Record}
+use Rattle.kinds.specs.declared.answer.Record.the-variants as record-of
+use Rattle.kinds.specs.declared.answer.Answer.{Answer}
+use Rattle.kinds.specs.declared.answer.Answer.the-variants as answer
+use Rattle.kinds.specs.declared.answer.Letter.{Letter}
+use Rattle.kinds.specs.declared.answer.Letter.the-variants.{Names, Unknown}
+
+abbrev pub ruleOf : Kind → Reader Record
+ruleOf kind.Date = map record-of.Date date
+ruleOf kind.Time = map record-of.Time time
+ruleOf kind.Offset = map record-of.Offset offset
+ruleOf kind.Stamp = map record-of.Stamp dateTime
+ruleOf kind.Duration = map record-of.Duration duration
+
+-- so many bytes, or fewer, change the answer where it is open
+abbrev pub bound : Kind → ℕ
+bound kind.Date = 7
+bound kind.Time = 3
+bound kind.Offset = 3
+bound kind.Stamp = 10
+bound kind.Duration = 3
+
+-- "a letter `d`, `t`, `o`, `s` or `p` (date, time, offset, date-time, duration)"
+abbrev pub letterOf : ℕ → Letter
+letterOf c =
+    pick (eqb c 100) (Names kind.Date)
+    (pick (eqb c 116) (Names kind.Time)
+    (pick (eqb c 111) (Names kind.Offset) (pick (eqb c 115) (Names kind.Stamp) (pick (eqb c 112) (Names kind.Duration) Unknown))))
+
+-- the paper's number, the record if there is one, and the count
+abbrev pub told : Answer → Told Record
+told (answer.Record r n) = recorded r n
+told (answer.Refused why n) = refused (numberOf why) n
+
+abbrev pub someAs : {A B : Type 0} → (A → B) → Option A → Option B
+someAs f none = none
+someAs f (some a) = some (f a)
+
+-- what is told of one kind's record, told of a record of any kind
+abbrev pub toldAs : {A B : Type 0} → (A → B) → Told A → Told B
+toldAs f t = record { number = t .number; value = someAs f (t .value); count = t .count }

@@ -1,0 +1,175 @@
+// One face over the five kinds: a kind as a value, and the two readers and the rest of the kind that is named. Each does what the
+// kind's own function does; who knows the kind calls that, and is served faster.
+ghost use mathlib.Core.Path.{_≡_};
+ghost use Rattle.parser.specs.Answer.{Begins, Ended, Rest};
+ghost use Rattle.date.specs.Answer.{dateTold};
+ghost use Rattle.time.specs.Answer.{timeTold};
+ghost use Rattle.offset.specs.Answer.{offsetTold};
+ghost use Rattle.datetime.specs.Answer.{dateTimeTold};
+ghost use Rattle.duration.specs.Answer.{durationTold};
+ghost use Rattle.kinds.specs.Kinds.{ruleOf, bound, letterOf, told, toldAs};
+use crate::answer::Answer;
+use crate::answer::Kind;
+use crate::answer::Letter;
+use crate::answer::Read;
+use crate::answer::Record;
+use date::DateAnswer;
+use datetime::DateTimeAnswer;
+use duration::DurationAnswer;
+use offset::OffsetAnswer;
+use time::TimeAnswer;
+
+pub mod answer;
+
+// The kind that a letter names.
+pub fn kind_of(letter: u8) -> Letter
+    ensures { λ r. ⌜ r ≡ letterOf letter ⌝ }
+{
+    match letter {
+        b'd' => Letter::Names(Kind::Date),
+        b't' => Letter::Names(Kind::Time),
+        b'o' => Letter::Names(Kind::Offset),
+        b's' => Letter::Names(Kind::Stamp),
+        b'p' => Letter::Names(Kind::Duration),
+        _ => Letter::Unknown,
+    }
+}
+
+fn of_date(answer: DateAnswer) -> Answer
+    ensures { λ r. ⌜ told r ≡ toldAs Record.Date (dateTold answer) ⌝ }
+{
+    match answer {
+        DateAnswer::Record { value, count } => Answer::Record {
+            value: Record::Date(value),
+            count,
+        },
+        DateAnswer::Refused { why, count } => Answer::Refused { why, count },
+    }
+}
+
+fn of_time(answer: TimeAnswer) -> Answer
+    ensures { λ r. ⌜ told r ≡ toldAs Record.Time (timeTold answer) ⌝ }
+{
+    match answer {
+        TimeAnswer::Record { value, count } => Answer::Record {
+            value: Record::Time(value),
+            count,
+        },
+        TimeAnswer::Refused { why, count } => Answer::Refused { why, count },
+    }
+}
+
+fn of_offset(answer: OffsetAnswer) -> Answer
+    ensures { λ r. ⌜ told r ≡ toldAs Record.Offset (offsetTold answer) ⌝ }
+{
+    match answer {
+        OffsetAnswer::Record { value, count } => Answer::Record {
+            value: Record::Offset(value),
+            count,
+        },
+        OffsetAnswer::Refused { why, count } => Answer::Refused { why, count },
+    }
+}
+
+fn of_datetime(answer: DateTimeAnswer) -> Answer
+    ensures { λ r. ⌜ told r ≡ toldAs Record.Stamp (dateTimeTold answer) ⌝ }
+{
+    match answer {
+        DateTimeAnswer::Record { value, count } => Answer::Record {
+            value: Record::Stamp(value),
+            count,
+        },
+        DateTimeAnswer::Refused { why, count } => Answer::Refused { why, count },
+    }
+}
+
+fn of_duration(answer: DurationAnswer) -> Answer
+    ensures { λ r. ⌜ told r ≡ toldAs Record.Duration (durationTold answer) ⌝ }
+{
+    match answer {
+        DurationAnswer::Record { value, count } => Answer::Record {
+            value: Record::Duration(value),
+            count,
+        },
+        DurationAnswer::Refused { why, count } => Answer::Refused { why, count },
+    }
+}
+
+// Reads the record of a kind that the bytes begin with.
+pub fn read(kind: Kind, s: &[u8]) -> Read
+    ensures { λ r. ⌜ Begins (bound kind) (ruleOf kind) (now (s .entry)) (told (r .answer)) (r .verdict) ⌝ }
+{
+    match kind {
+        Kind::Date => {
+            let read = date::date(s);
+            let answer = read.answer;
+            let verdict = read.verdict;
+            Read {
+                answer: of_date(answer),
+                verdict,
+            }
+        }
+        Kind::Time => {
+            let read = time::time(s);
+            let answer = read.answer;
+            let verdict = read.verdict;
+            Read {
+                answer: of_time(answer),
+                verdict,
+            }
+        }
+        Kind::Offset => {
+            let read = offset::offset(s);
+            let answer = read.answer;
+            let verdict = read.verdict;
+            Read {
+                answer: of_offset(answer),
+                verdict,
+            }
+        }
+        Kind::Stamp => {
+            let read = datetime::datetime(s);
+            let answer = read.answer;
+            let verdict = read.verdict;
+            Read {
+                answer: of_datetime(answer),
+                verdict,
+            }
+        }
+        Kind::Duration => {
+            let read = duration::duration(s);
+            let answer = read.answer;
+            let verdict = read.verdict;
+            Read {
+                answer: of_duration(answer),
+                verdict,
+            }
+        }
+    }
+}
+
+// The bytes that `read` leaves: those after the record, or all of them where there is none.
+pub fn rest(kind: Kind, s: &[u8]) -> &[u8]
+    ensures { λ r. ⌜ Rest (ruleOf kind) (now (s .entry)) (now r) ⌝ }
+{
+    match kind {
+        Kind::Date => date::date_rest(s),
+        Kind::Time => time::time_rest(s),
+        Kind::Offset => offset::offset_rest(s),
+        Kind::Stamp => datetime::datetime_rest(s),
+        Kind::Duration => duration::duration_rest(s),
+    }
+}
+
+// Reads bytes that are one record of a kind from the first to the last.
+pub fn parse(kind: Kind, s: &[u8]) -> Answer
+    ensures { λ r. ⌜ Ended (ruleOf kind) (now (s .entry)) (told r) ⌝ }
+{
+    match kind {
+        Kind::Date => of_date(date::parse_date(s)),
+        Kind::Time => of_time(time::parse_time(s)),
+        Kind::Offset => of_offset(offset::parse_offset(s)),
+        Kind::Stamp => of_datetime(datetime::parse_datetime(s)),
+        Kind::Duration => of_duration(duration::parse_duration(s)),
+    }
+}
