@@ -1,31 +1,30 @@
--- No answer is longer than the room that is kept for one. Each word is taken at its longest: 20 digits, and a minus.
-use Prim.Native.Nat.{ℕ, zero, suc, _+_, _/_, _%_, _≤_}
+-- No answer is longer than the room that is kept for one: a word has at most 22 bytes, its space among them, and an answer at most 16.
+use Prim.Native.Nat.{ℕ, zero, suc, _+_, _*_, _/_, _%_, _≤_}
 use mathlib.Core.Bool.{Bool, true, false}
 use mathlib.Core.List.{List, [], _∷_, _++_}
 use mathlib.Core.Option.{Option, some, none}
 use mathlib.Core.Path.{_≡_, _∙_, ap}
 use native.Mathlib.Omega.{arith}
 use lib.Dec.{ltb}
-use lib.IntN.{ℤ, pos, negsuc}
 use lib.ListN.{length, length-append, take}
 use lib.Seq.{take-at, length-take-le}
-use Rattle.types.specs.declared.Verdict.{Verdict}
-use Rattle.types.specs.declared.Verdict.the-variants.{Settled, Open}
-use Rattle.types.specs.declared.Offset.{Offset}
-use Rattle.types.specs.declared.TimeOffset.{TimeOffset}
-use Rattle.types.specs.declared.TimeOffset.the-variants.{Absent, Given}
-use Rattle.types.specs.declared.Time.{Time}
 use Rattle.types.specs.declared.Date.{Date}
 use Rattle.types.specs.declared.Date.the-variants.{YMD, Week, Ordinal}
-use Rattle.types.specs.declared.DateTime.{DateTime}
-use Rattle.types.specs.declared.Duration.{Duration}
-use Rattle.types.specs.Sums.{minutesInAll, secondsOf}
-use Rattle.parser.specs.Reading.{Reader, pick}
-use Rattle.words.specs.Text.{decimal, decimalOf, signed}
-use Rattle.words.specs.Records.{offsetWords, timeOffsetWords, timeWords, dateWords, dateTimeWords, durationWords}
-use Rattle.words.specs.Line.{verdictWord, headWords, recordWords, Answered, Gives, Asked, dateText, timeText, offsetText, dateTimeText, durationText, unknown, askedBy, Answers, AnswersLine}
-use Rattle.answers.specs.Stream.{Added}
+use Rattle.parser.specs.Reading.{pick}
+use Rattle.kinds.specs.declared.answer.Letter.{Letter}
+use Rattle.kinds.specs.declared.answer.Letter.the-variants.{Names, Unknown}
+use Rattle.kinds.specs.declared.answer.Record.{Record}
+use Rattle.kinds.specs.declared.answer.Record.the-variants as record-of
+use Rattle.words.specs.declared.word.Name.{Name}
+use Rattle.words.specs.declared.word.Name.the-variants as name
+use Rattle.words.specs.declared.word.Word.{Word}
+use Rattle.words.specs.declared.word.Word.the-variants as word
+use Rattle.words.specs.Text.{decimal, decimalOf}
+use Rattle.words.specs.Words.{lettersOf, wordText, textOf}
+use Rattle.words.specs.Records.{headWords, dateWords, recordOrDash}
+use Rattle.words.specs.Line.{Gives, questionOf, AnswersTo, AnswersLine}
 use Rattle.words.proofs.Laws.{puts-fits}
+use Rattle.answers.specs.Stream.{Added}
 
 digits-short : (k n : ℕ) → length (decimalOf k n) ≤ k
 unfolding decimalOf
@@ -36,77 +35,52 @@ digits-short (suc k) n = step (ltb n 10) (digits-short k (n / 10))
     step true h = omega arith
     step false h = simp length-append (omega arith)
 
-decimal-short : (n : ℕ) → length (decimal n) ≤ 20
-decimal-short n = digits-short 20 n
+letters-short : (n : Name) → length (lettersOf n) ≤ 8
+unfolding lettersOf
+letters-short name.Ymd = omega arith
+letters-short name.Week = omega arith
+letters-short name.Ordinal = omega arith
+letters-short name.Time = omega arith
+letters-short name.Offset = omega arith
+letters-short name.Duration = omega arith
+letters-short name.Settled = omega arith
+letters-short name.Open = omega arith
+letters-short name.None = omega arith
+letters-short name.Dash = omega arith
+letters-short name.Unknown = omega arith
 
-signed-short : (z : ℤ) → length (signed z) ≤ 21
-signed-short (pos n) = omega (arith, decimal-short n)
-signed-short (negsuc n) = omega (arith, decimal-short (suc n))
+word-short : (w : Word) → length (wordText w) ≤ 22
+word-short (word.Name n) = omega (arith, letters-short n)
+word-short (word.Number n) = omega (arith, digits-short 20 n)
+word-short (word.Minus n) = omega (arith, digits-short 20 n)
+word-short word.Nothing = omega arith
 
-verdict-short : (v : Verdict) → length (verdictWord v) ≤ 8
-unfolding verdictWord
-verdict-short Settled = omega arith
-verdict-short Open = omega arith
+text-short : (l : List Word) → length (textOf l) ≤ 22 * length l
+text-short [] = omega arith
+text-short (w ∷ l) = simp length-append (omega (arith, word-short w, text-short l))
 
-head-short : (b n : ℕ) (v : Verdict) (w m : ℕ) → length (headWords b n v w m) ≤ 91
-unfolding headWords
-head-short b n v w m =
-    simp length-append (omega (arith, decimal-short b, decimal-short n, verdict-short v, decimal-short w, decimal-short m))
+date-few : (d : Date) → length (dateWords d) ≡ 4
+date-few (YMD y m d) = omega arith
+date-few (Week y w d) = omega arith
+date-few (Ordinal y d) = omega arith
 
-offset-short : (o : Offset) → length (offsetWords o) ≤ 200
-unfolding offsetWords
-offset-short o =
-    simp length-append (omega (arith, signed-short (o .hours), signed-short (o .minutes), signed-short (minutesInAll o)))
+record-few : (v : Option Record) → length (recordOrDash v) ≤ 10
+record-few none = omega arith
+record-few (some (record-of.Date v)) = omega (arith, date-few v)
+record-few (some (record-of.Time v)) = omega arith
+record-few (some (record-of.Offset v)) = omega arith
+record-few (some (record-of.Stamp v)) = simp length-append (omega (arith, date-few (v .date)))
+record-few (some (record-of.Duration v)) = omega arith
 
-time-offset-short : (o : TimeOffset) → length (timeOffsetWords o) ≤ 22
-unfolding timeOffsetWords
-time-offset-short Absent = omega arith
-time-offset-short (Given o) = omega (arith, signed-short (minutesInAll o))
-
-time-short : (t : Time) → length (timeWords t) ≤ 111
-unfolding timeWords
-time-short t =
-    simp length-append
-    (omega (arith, decimal-short (t .hour), decimal-short (t .minute), decimal-short (t .second), decimal-short (t .nanosecond), time-offset-short (t .offset)))
-
-date-short : (d : Date) → length (dateWords d) ≤ 72
-unfolding dateWords
-date-short (YMD y m d) = simp length-append (omega (arith, signed-short y, decimal-short m, decimal-short d))
-date-short (Week y w d) = simp length-append (omega (arith, signed-short y, decimal-short w, decimal-short d))
-date-short (Ordinal y d) = simp length-append (omega (arith, signed-short y, decimal-short d))
-
-datetime-short : (v : DateTime) → length (dateTimeWords v) ≤ 200
-unfolding dateTimeWords
-datetime-short v = simp length-append (omega (arith, date-short (v .date), time-short (v .time)))
-
-duration-short : (v : Duration) → length (durationWords v) ≤ 200
-unfolding durationWords
-duration-short v =
-    simp length-append
-    (omega (arith, decimal-short (v .years), decimal-short (v .months), decimal-short (v .weeks), decimal-short (v .days), decimal-short (v .hours), decimal-short (v .minutes), decimal-short (v .seconds), decimal-short (secondsOf v)))
-
-module _ {A : Type 0} (words : A → List ℕ) (short : (a : A) → length (words a) ≤ 200) where
-  record-short : (v : Option A) → length (recordWords words v) ≤ 200
-  unfolding recordWords
-  record-short (some a) = short a
-  record-short none = omega arith
-
-  answered-short : (k : ℕ) (p : Reader A) (s t : List ℕ) → Answered k p words s t → length t ≤ 400
-  answered-short k p s t a =
-      rw (a .says)
-      (simp length-append
-      (omega (arith, head-short (a .begun .number) (a .begun .count) (a .verdict) (a .whole .number) (a .whole .count), record-short (a .begun .value))))
-
-answer-short : (q : Asked) (t : List ℕ) → Answers q t → length t ≤ 400
-answer-short (dateText s) t a = answered-short dateWords (λ d. omega (arith, date-short d)) _ _ s t a
-answer-short (timeText s) t a = answered-short timeWords (λ v. omega (arith, time-short v)) _ _ s t a
-answer-short (offsetText s) t a = answered-short offsetWords offset-short _ _ s t a
-answer-short (dateTimeText s) t a = answered-short dateTimeWords datetime-short _ _ s t a
-answer-short (durationText s) t a = answered-short durationWords duration-short _ _ s t a
-answer-short unknown t a = rw a (omega arith)
+answer-short : (q : Letter) (s t : List ℕ) → AnswersTo q s t → length t ≤ 400
+answer-short (Names k) s t a =
+    let head = headWords (a .begun .count) (a .verdict) (a .whole .number) (a .whole .count) in
+    let value = recordOrDash (a .begun .value) in
+    rw (a .says) (simp length-append (omega (arith, digits-short 20 (a .begun .number), text-short head, text-short value, record-few (a .begun .value))))
+answer-short Unknown s t a = rw a (omega (arith, letters-short name.Unknown))
 
 line-short : (l t : List ℕ) → AnswersLine l t → length t ≤ 512
-line-short l t a = rw (a .1 .1) (simp length-append (omega (arith, answer-short (askedBy l) (a .0) (a .1 .0))))
+line-short l t a = rw (a .1 .1) (simp length-append (omega (arith, answer-short (questionOf l) _ (a .0) (a .1 .0))))
 
 -- So where there is that much room, all of the answer is there.
 pub added : {l old new : List ℕ} {at next : ℕ} → at + 512 ≤ length old → Gives (AnswersLine l) old at new next → Added l old at new next

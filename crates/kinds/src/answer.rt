@@ -1,4 +1,7 @@
 // A kind as a value, and what its readers answer.
+ghost use mathlib.Core.Path.{_≡_};
+ghost use Rattle.types.specs.Numbers.{numberOf};
+ghost use Rattle.kinds.specs.Kinds.{told};
 use types::Date;
 use types::DateTime;
 use types::Duration;
@@ -40,4 +43,36 @@ pub struct Read {
 pub enum Letter {
     Names(Kind),
     Unknown,
+}
+
+fn number_of(why: Refusal) -> u64
+    ensures { λ r. ⌜ r ≡ numberOf why ⌝ }
+{
+    match why {
+        Refusal::NoForm => 1,
+        Refusal::TooBig => 2,
+        Refusal::LeftOver => 3,
+    }
+}
+
+impl Answer {
+    // 0 for a record, and else the paper's number of the refusal.
+    pub fn number(self) -> u64
+        ensures { λ r. ⌜ r ≡ told self .number ⌝ }
+    {
+        match self {
+            Answer::Record { value: _, count: _ } => 0,
+            Answer::Refused { why, count: _ } => number_of(why),
+        }
+    }
+
+    // The bytes read; of a refusal those that the form took.
+    pub fn count(self) -> usize
+        ensures { λ r. ⌜ r ≡ told self .count ⌝ }
+    {
+        match self {
+            Answer::Record { value: _, count } => count,
+            Answer::Refused { why: _, count } => count,
+        }
+    }
 }

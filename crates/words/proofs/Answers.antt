@@ -1,23 +1,37 @@
--- A kind's answer: what its two readers tell, put as the head and the record.
+-- The answer to a text: what its kind's two readers tell, put as the number, the head and the record.
 use Prim.Native.Nat.{ℕ}
-use mathlib.Core.List.{List}
-use mathlib.Core.Path.{_≡_, refl}
+use mathlib.Core.List.{List, [], _++_, append-nil}
+use mathlib.Core.Path.{_≡_}
 use Rattle.types.specs.declared.Verdict.{Verdict}
-use Rattle.parser.specs.Reading.{Reader}
-use Rattle.parser.specs.Answer.{Told, Begins, Ended}
-use Rattle.words.specs.Text.{Puts}
-use Rattle.words.specs.Line.{headWords, recordWords, Answered, Gives}
-use Rattle.words.proofs.Laws.{then-puts}
+use Rattle.parser.specs.Answer.{Begins, Ended}
+use Rattle.kinds.specs.declared.answer.Kind.{Kind}
+use Rattle.kinds.specs.declared.answer.Answer.{Answer}
+use Rattle.kinds.specs.declared.answer.Record.{Record}
+use Rattle.kinds.specs.Kinds.{ruleOf, bound, told}
+use Rattle.words.specs.Text.{Puts, decimal}
+use Rattle.words.specs.Words.{textOf}
+use Rattle.words.specs.Records.{headWords, firstWords, thenWords, recordWords, recordOrDash}
+use Rattle.words.specs.Line.{Answered, Gives}
+use Rattle.words.proofs.Laws.{then-puts, text-append}
 
-module _ {A : Type 0} (k : ℕ) (p : Reader A) (words : A → List ℕ) (s : List ℕ) (told whole : Told A) (v : Verdict) where
-  pub answered : Begins k p s told v → Ended p s whole
-      → {b n w m : ℕ} → (b ≡ told .number) × (n ≡ told .count) → (w ≡ whole .number) × (m ≡ whole .count)
-      → {r old mid new : List ℕ} {at i next : ℕ} → r ≡ recordWords words (told .value)
-      → Puts (headWords b n v w m) old at mid i → Puts r mid i new next → Gives (Answered k p words s) old at new next
-  answered begins ends first second record-is head tail = (
-    _,
+module _ (k : Kind) (s : List ℕ) (begun whole : Answer) (v : Verdict) where
+  pub answered : Begins (bound k) (ruleOf k) s (told begun) v → Ended (ruleOf k) s (told whole)
+      → {b n w m : ℕ} → b ≡ told begun .number → n ≡ told begun .count → w ≡ told whole .number → m ≡ told whole .count
+      → {h r : List ℕ} → h ≡ textOf (headWords n v w m) → r ≡ textOf (recordOrDash (told begun .value))
+      → {old mid end new : List ℕ} {at i j next : ℕ} → Puts (decimal b) old at mid i → Puts h mid i end j → Puts r end j new next
+      → Gives (Answered k s) old at new next
+  answered begins ends {b} {n} {w} {m} eb en ew em {h} {r} eh er first second third = (
+    decimal b ++ (h ++ r),
     (
-      record { begun = told; verdict = v; whole = whole; begins = begins; ends = ends; says = refl },
-      rw (← first .0, ← first .1, ← second .0, ← second .1, ← record-is) (then-puts head tail),
+      record { begun = told begun; verdict = v; whole = told whole; begins = begins; ends = ends; says = rw (eb, eh, er, en, ew, em) },
+      then-puts first (then-puts second third),
     ),
   )
+
+-- a record of one row, and one of two
+module _ (v : Record) {t old new : List ℕ} {at next : ℕ} where
+  pub one-row : t ≡ textOf (firstWords v) → thenWords v ≡ [] → Puts t old at new next → Puts (textOf (recordWords v)) old at new next
+  one-row first none put = rw (none, append-nil, ← first) put
+
+  pub two-rows : {mid : List ℕ} {n : ℕ} → t ≡ textOf (firstWords v) → Puts t old at mid n → Puts (textOf (thenWords v)) mid n new next → Puts (textOf (recordWords v)) old at new next
+  two-rows first put more = rw (text-append (firstWords v) (thenWords v), ← first) (then-puts put more)

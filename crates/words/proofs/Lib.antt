@@ -1,5 +1,5 @@
 pub mod Laws
 pub mod Decimals
 pub mod Sizes
-pub mod Answers
 pub mod Asked
+pub mod Answers

@@ -1,7 +1,6 @@
 -- A number below 0 is minus one more than some k, where k fits as the number does; and what code computes of such a number.
 use Prim.Native.Nat.{ℕ, zero, suc, _<_, _^_}
 use mathlib.Core.Bool.{true, false}
-use mathlib.Core.List.{_∷_}
 use mathlib.Core.Path.{_≡_, refl, ap, _∙_}
 use native.Mathlib.Omega.{arith}
 use borrow.Author.Tests.{ltb-true}
@@ -10,7 +9,8 @@ use lib.Signed.{ltZ}
 use mir.Syntax.{w64}
 use mir.Val.{SFits, toZ, ofZ}
 use mir.Facts.{toZ-ofZ}
-use Rattle.words.specs.Text.{decimal, signed}
+use Rattle.words.specs.Words.{signedWord}
+use Rattle.words.specs.declared.word.Word.the-variants.{Number, Minus}
 
 -- of a number below 0: one less than its size, k
 pub record Below (n : ℤ) : Type 0 where
@@ -52,9 +52,9 @@ module _ {n : ℤ} (h : SFits w64 n) (b : Below n) where
   pub negated : pos 0 -ℤ toZ w64 (ofZ w64 (toZ w64 (ofZ w64 n) +ℤ pos 1)) ≡ pos (b .k)
   negated = rw (more, read (minus-fits (b .k) (b .fits)), +ℤ-idl) (negℤ-negℤ (pos (b .k)))
 
--- a signed number is its size, behind a minus where it is below 0
-pub signed-below : (n : ℤ) → Below n → signed n ≡ 45 ∷ decimal (natAbs n)
+-- a signed word is its size, behind a minus where it is below 0
+pub signed-below : (n : ℤ) → Below n → signedWord n ≡ Minus (natAbs n)
 signed-below n b = rw (b .is)
 
-pub signed-above : (n : ℤ) → Above n → signed n ≡ decimal (natAbs n)
+pub signed-above : (n : ℤ) → Above n → signedWord n ≡ Number (natAbs n)
 signed-above n a = rw (a .is)

@@ -1,52 +1,78 @@
--- The words of each record, each behind a space.
+-- The words of each record, and those in front of it.
 use Prim.Native.Nat.{ℕ}
 use mathlib.Core.List.{List, [], _∷_, _++_}
+use mathlib.Core.Option.{Option, some, none}
+use Rattle.types.specs.declared.Verdict.{Verdict}
+use Rattle.types.specs.declared.Verdict.the-variants.{Settled, Open}
 use Rattle.types.specs.declared.Offset.{Offset}
 use Rattle.types.specs.declared.TimeOffset.{TimeOffset}
 use Rattle.types.specs.declared.TimeOffset.the-variants.{Absent, Given}
 use Rattle.types.specs.declared.Time.{Time}
 use Rattle.types.specs.declared.Date.{Date}
 use Rattle.types.specs.declared.Date.the-variants.{YMD, Week, Ordinal}
-use Rattle.types.specs.declared.DateTime.{DateTime}
 use Rattle.types.specs.declared.Duration.{Duration}
 use Rattle.types.specs.Sums.{minutesInAll, secondsOf}
-use Rattle.words.specs.Text.{decimal, signed, spaced}
+use Rattle.kinds.specs.declared.answer.Record.{Record}
+use Rattle.kinds.specs.declared.answer.Record.the-variants as record-of
+use Rattle.words.specs.Words.{signedWord}
+use Rattle.words.specs.declared.word.Name.the-variants as name
+use Rattle.words.specs.declared.word.Word.{Word}
+use Rattle.words.specs.declared.word.Word.the-variants.{Name as Named, Number}
+
+-- `settled`, `open`
+abbrev pub verdictWord : Verdict → Word
+verdictWord Settled = Named name.Settled
+verdictWord Open = Named name.Open
+
+-- `COUNT VERDICT W WCOUNT`
+abbrev pub headWords : ℕ → Verdict → ℕ → ℕ → List Word
+headWords n v w m = Number n ∷ verdictWord v ∷ Number w ∷ Number m ∷ []
 
 -- `offset HOURS MINUTES TOTAL`
-unfoldable pub offsetWords : Offset → List ℕ
-offsetWords o =
-    spaced (111 ∷ 102 ∷ 102 ∷ 115 ∷ 101 ∷ 116 ∷ [])
-    ++ (spaced (signed (o .hours)) ++ (spaced (signed (o .minutes)) ++ spaced (signed (minutesInAll o))))
+abbrev pub offsetWords : Offset → List Word
+offsetWords o = Named name.Offset ∷ signedWord (o .hours) ∷ signedWord (o .minutes) ∷ signedWord (minutesInAll o) ∷ []
 
 -- `none`, or the signed minutes in all
-unfoldable pub timeOffsetWords : TimeOffset → List ℕ
-timeOffsetWords Absent = spaced (110 ∷ 111 ∷ 110 ∷ 101 ∷ [])
-timeOffsetWords (Given o) = spaced (signed (minutesInAll o))
+abbrev pub timeOffsetWord : TimeOffset → Word
+timeOffsetWord Absent = Named name.None
+timeOffsetWord (Given o) = signedWord (minutesInAll o)
 
 -- `time HOUR MINUTE SECOND NANO OFFSET`
-unfoldable pub timeWords : Time → List ℕ
+abbrev pub timeWords : Time → List Word
 timeWords t =
-    spaced (116 ∷ 105 ∷ 109 ∷ 101 ∷ [])
-    ++ (spaced (decimal (t .hour))
-    ++ (spaced (decimal (t .minute)) ++ (spaced (decimal (t .second)) ++ (spaced (decimal (t .nanosecond)) ++ timeOffsetWords (t .offset)))))
+    Named name.Time ∷ Number (t .hour) ∷ Number (t .minute) ∷ Number (t .second) ∷ Number (t .nanosecond) ∷ timeOffsetWord (t .offset) ∷ []
 
 -- `ymd YEAR MONTH DAY`, `week YEAR WEEK DAY` or `ordinal YEAR DAY`
-unfoldable pub dateWords : Date → List ℕ
-dateWords (YMD y m d) = (spaced (121 ∷ 109 ∷ 100 ∷ []) ++ spaced (signed y)) ++ (spaced (decimal m) ++ spaced (decimal d))
-dateWords (Week y w d) = (spaced (119 ∷ 101 ∷ 101 ∷ 107 ∷ []) ++ spaced (signed y)) ++ (spaced (decimal w) ++ spaced (decimal d))
-dateWords (Ordinal y d) = (spaced (111 ∷ 114 ∷ 100 ∷ 105 ∷ 110 ∷ 97 ∷ 108 ∷ []) ++ spaced (signed y)) ++ spaced (decimal d)
-
--- "the date's words, then the time's"
-unfoldable pub dateTimeWords : DateTime → List ℕ
-dateTimeWords v = dateWords (v .date) ++ timeWords (v .time)
+abbrev pub dateWords : Date → List Word
+dateWords (YMD y m d) = Named name.Ymd ∷ signedWord y ∷ Number m ∷ Number d ∷ []
+dateWords (Week y w d) = Named name.Week ∷ signedWord y ∷ Number w ∷ Number d ∷ []
+dateWords (Ordinal y d) = Named name.Ordinal ∷ signedWord y ∷ Number d ∷ []
 
 -- `duration Y MO W D H MI S SECONDS`
-unfoldable pub durationWords : Duration → List ℕ
+abbrev pub durationWords : Duration → List Word
 durationWords v =
-    spaced (100 ∷ 117 ∷ 114 ∷ 97 ∷ 116 ∷ 105 ∷ 111 ∷ 110 ∷ [])
-    ++ (spaced (decimal (v .years))
-    ++ (spaced (decimal (v .months))
-    ++ (spaced (decimal (v .weeks))
-    ++ (spaced (decimal (v .days))
-    ++ (spaced (decimal (v .hours))
-    ++ (spaced (decimal (v .minutes)) ++ (spaced (decimal (v .seconds)) ++ spaced (decimal (secondsOf v)))))))))
+    Named name.Duration ∷ Number (v .years) ∷ Number (v .months) ∷ Number (v .weeks) ∷ Number (v .days) ∷ Number (v .hours)
+    ∷ Number (v .minutes) ∷ Number (v .seconds) ∷ Number (secondsOf v) ∷ []
+
+-- "for a date-time the date's words, then the time's"
+abbrev pub firstWords : Record → List Word
+firstWords (record-of.Date v) = dateWords v
+firstWords (record-of.Time v) = timeWords v
+firstWords (record-of.Offset v) = offsetWords v
+firstWords (record-of.Stamp v) = dateWords (v .date)
+firstWords (record-of.Duration v) = durationWords v
+
+abbrev pub thenWords : Record → List Word
+thenWords (record-of.Stamp v) = timeWords (v .time)
+thenWords (record-of.Date v) = []
+thenWords (record-of.Time v) = []
+thenWords (record-of.Offset v) = []
+thenWords (record-of.Duration v) = []
+
+abbrev pub recordWords : Record → List Word
+recordWords r = firstWords r ++ thenWords r
+
+-- "RECORD: `-` where B is not 0"
+abbrev pub recordOrDash : Option Record → List Word
+recordOrDash (some v) = recordWords v
+recordOrDash none = Named name.Dash ∷ []

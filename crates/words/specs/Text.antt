@@ -5,7 +5,6 @@ use mathlib.Core.List.{List, [], _∷_, _++_}
 use mathlib.Core.Path.{_≡_}
 use lib.Dec.{ltb}
 use lib.ListN.{length, set}
-use lib.IntN.{ℤ, pos, negsuc}
 use Rattle.parser.specs.Reading.{pick}
 
 -- the bytes of an output, and the place of the next
@@ -33,15 +32,10 @@ unfoldable pub decimalOf : ℕ → ℕ → List ℕ
 decimalOf zero n = []
 decimalOf (suc k) n = pick (ltb n 10) ((48 + n) ∷ []) (decimalOf k (n / 10) ++ ((48 + n % 10) ∷ []))
 
--- a number of 64 bits has at most 20
+-- "All plain decimal": a number of 64 bits has at most 20 digits
 abbrev pub decimal : ℕ → List ℕ
 decimal n = decimalOf 20 n
 
--- "All plain decimal, a minus where negative"
-abbrev pub signed : ℤ → List ℕ
-signed (pos n) = decimal n
-signed (negsuc n) = 45 ∷ decimal (suc n)
-
--- "one space between words": each word but a line's first stands behind one
+-- a word behind its space
 abbrev pub spaced : List ℕ → List ℕ
 spaced w = 32 ∷ w

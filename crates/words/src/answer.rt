@@ -1,47 +1,98 @@
 // The answer to a line.
-ghost use Rattle.words.specs.Line.{Gives, asks, askedBy, unknown as Line·unknown, Answers, AnswersLine};
-use crate::kinds::answer_date;
-use crate::kinds::answer_datetime;
-use crate::kinds::answer_duration;
-use crate::kinds::answer_offset;
-use crate::kinds::answer_time;
-use crate::text::put;
+ghost use mathlib.Core.Path.{_≡_};
+ghost use Rattle.words.specs.Text.{Puts};
+ghost use Rattle.words.specs.Words.{textOf};
+ghost use Rattle.words.specs.Records.{firstWords, recordWords};
+ghost use Rattle.words.specs.Line.{Gives, Answered, questionOf, Answers, AnswersLine};
+use crate::records;
 use crate::text::put_byte;
+use crate::text::put_decimal;
+use crate::text::put_name;
+use crate::text::put_word;
+use crate::text::put_words;
+use crate::word::Name;
+use crate::word::Word;
+use kinds::answer::Answer;
+use kinds::answer::Kind;
+use kinds::answer::Letter;
+use kinds::answer::Record;
 
-fn unknown(out: &mut [u8], at: usize) -> usize
-    ensures { λ r. ⌜ Gives (Answers Line·unknown) (now (out .entry)) at (now (out .exit)) r ⌝ }
+// A record's words; of a date-time the date's, and the time's follow.
+fn first_row(value: Record) -> [Word; 9]
+    ensures { λ r. ⌜ textOf r ≡ textOf (firstWords value) ⌝ }
 {
-    put(out, at, b"unknown")
-}
-
-// The answer to a text of the kind that the letter names.
-fn answer_kind(letter: u8, s: &[u8], out: &mut [u8], at: usize) -> usize
-    ensures { λ r. ⌜ Gives (Answers (asks letter (now (s .entry)))) (now (out .entry)) at (now (out .exit)) r ⌝ }
-{
-    match letter {
-        b'd' => answer_date(s, out, at),
-        b't' => answer_time(s, out, at),
-        b'o' => answer_offset(s, out, at),
-        b's' => answer_datetime(s, out, at),
-        b'p' => answer_duration(s, out, at),
-        _ => unknown(out, at),
+    match value {
+        Record::Date(v) => records::date(v),
+        Record::Time(v) => records::time(v),
+        Record::Offset(v) => records::offset(v),
+        Record::Stamp(v) => {
+            let date = v.date;
+            records::date(date)
+        }
+        Record::Duration(v) => records::duration(v),
     }
 }
 
-// The answer to a line without its end. Of a line that is too long the first bytes are enough.
-fn answer(line: &[u8], out: &mut [u8], at: usize) -> usize
-    ensures { λ r. ⌜ Gives (Answers (askedBy (now (line .entry)))) (now (out .entry)) at (now (out .exit)) r ⌝ }
+fn put_record(out: &mut [u8], at: usize, value: Record) -> usize
+    ensures { λ r. ⌜ Puts (textOf (recordWords value)) (now (out .entry)) at (now (out .exit)) r ⌝ }
+{
+    let next = put_words(out, at, first_row(value));
+    match value {
+        Record::Stamp(v) => {
+            let time = v.time;
+            put_words(out, next, records::time(time))
+        }
+        Record::Date(_) => next,
+        Record::Time(_) => next,
+        Record::Offset(_) => next,
+        Record::Duration(_) => next,
+    }
+}
+
+// B COUNT VERDICT W WCOUNT RECORD, the record being a dash where there is none
+fn answer_text(kind: Kind, s: &[u8], out: &mut [u8], at: usize) -> usize
+    ensures { λ r. ⌜ Gives (Answered kind (now (s .entry))) (now (out .entry)) at (now (out .exit)) r ⌝ }
+{
+    let read = kinds::read(kind, s);
+    let begun = read.answer;
+    let verdict = read.verdict;
+    let whole = kinds::parse(kind, s);
+    let next = put_decimal(out, at, begun.number());
+    let next = put_words(
+        out,
+        next,
+        records::head(begun.count(), verdict, whole.number(), whole.count()),
+    );
+    match begun {
+        Answer::Record { value, count: _ } => put_record(out, next, value),
+        Answer::Refused { why: _, count: _ } => put_word(out, next, Word::Name(Name::Dash)),
+    }
+}
+
+// The kind that a line names, where it is a letter, a space and at most 200 bytes. Of a line that is too long the first bytes are enough.
+fn question(line: &[u8]) -> Letter
+    ensures { λ r. ⌜ r ≡ questionOf (now (line .entry)) ⌝ }
 {
     if line.len() < 2 {
-        return unknown(out, at);
+        return Letter::Unknown;
     }
     if 202 < line.len() {
-        return unknown(out, at);
+        return Letter::Unknown;
     }
-    if line[1] == b' ' {
-        answer_kind(line[0], &line[2..], out, at)
-    } else {
-        unknown(out, at)
+    if line[1] != b' ' {
+        return Letter::Unknown;
+    }
+    kinds::kind_of(line[0])
+}
+
+// The answer to a line without its end.
+fn answer(line: &[u8], out: &mut [u8], at: usize) -> usize
+    ensures { λ r. ⌜ Gives (Answers (now (line .entry))) (now (out .entry)) at (now (out .exit)) r ⌝ }
+{
+    let asked = question(line);
+    match asked {
+        Letter::Names(kind) => answer_text(kind, &line[2..], out, at),
+        Letter::Unknown => put_name(out, at, Name::Unknown),
     }
 }
 

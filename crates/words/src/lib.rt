@@ -4,6 +4,6 @@
 //
 // put into a buffer of the caller's. Programs stand on `answer_line`.
 pub mod answer;
-mod kinds;
 mod records;
 mod text;
+mod word;

@@ -2,10 +2,12 @@
 //
 // Each function here takes the place of the next byte and returns the place behind what it put. What does not fit is left out, so that no
 // caller has to promise room: the program keeps room for a whole answer (`ROOM` of main.rt).
-ghost use mathlib.Core.Path.{_≡_};
 ghost use mathlib.Core.List.{[], _∷_};
-ghost use lib.IntN.{natAbs};
-ghost use Rattle.words.specs.Text.{Puts, decimal, signed, spaced};
+ghost use Rattle.words.specs.Text.{Puts, decimal, spaced};
+ghost use Rattle.words.specs.Words.{lettersOf, wordText, textOf};
+use crate::word::Name;
+use crate::word::Word;
+use crate::word::letters;
 
 // Puts one byte.
 pub fn put_byte(out: &mut [u8], at: usize, byte: u8) -> usize
@@ -19,15 +21,28 @@ pub fn put_byte(out: &mut [u8], at: usize, byte: u8) -> usize
     }
 }
 
-// Puts the bytes of a word.
-pub fn put(out: &mut [u8], at: usize, word: &[u8]) -> usize
-    ensures { λ r. ⌜ Puts (now (word .entry)) (now (out .entry)) at (now (out .exit)) r ⌝ }
+// Puts some bytes.
+fn put(out: &mut [u8], at: usize, bytes: &[u8]) -> usize
+    ensures { λ r. ⌜ Puts (now (bytes .entry)) (now (out .entry)) at (now (out .exit)) r ⌝ }
 {
     let mut next = at;
     let mut i = 0;
-    while i < word.len() {
-        next = put_byte(out, next, word[i]);
+    while i < bytes.len() {
+        next = put_byte(out, next, bytes[i]);
         i += 1;
+    }
+    next
+}
+
+// Puts a name's letters.
+pub fn put_name(out: &mut [u8], at: usize, name: Name) -> usize
+    ensures { λ r. ⌜ Puts (lettersOf name) (now (out .entry)) at (now (out .exit)) r ⌝ }
+{
+    let mut next = at;
+    let mut left = letters(name);
+    while 0 < left {
+        next = put_byte(out, next, (left % 256) as u8);
+        left /= 256;
     }
     next
 }
@@ -41,42 +56,38 @@ pub fn put_decimal(out: &mut [u8], at: usize, n: u64) -> usize
     put(out, at, &digits[..count])
 }
 
-// Puts a space and a number.
-pub fn put_number(out: &mut [u8], at: usize, n: u64) -> usize
-    ensures { λ r. ⌜ Puts (spaced (decimal n)) (now (out .entry)) at (now (out .exit)) r ⌝ }
+// Puts a word and the space before it.
+pub fn put_word(out: &mut [u8], at: usize, word: Word) -> usize
+    ensures { λ r. ⌜ Puts (wordText word) (now (out .entry)) at (now (out .exit)) r ⌝ }
 {
-    let next = put_byte(out, at, 32);
-    put_decimal(out, next, n)
-}
-
-// How far a number is from 0.
-fn size(n: i64) -> u64
-    ensures { λ r. ⌜ r ≡ natAbs n ⌝ }
-{
-    if n < 0 {
-        // The least number's negation does not fit, and that of the next number does.
-        let less = 0 - (n + 1);
-        (less as u64) + 1
-    } else {
-        n as u64
+    match word {
+        Word::Name(name) => {
+            let next = put_byte(out, at, 32);
+            put_name(out, next, name)
+        }
+        Word::Number(n) => {
+            let next = put_byte(out, at, 32);
+            put_decimal(out, next, n)
+        }
+        Word::Minus(n) => {
+            let next = put_byte(out, at, 32);
+            let next = put_byte(out, next, 45);
+            put_decimal(out, next, n)
+        }
+        Word::Nothing => at,
     }
 }
 
-// Puts a space and a number with its minus, where it has one.
-pub fn put_signed(out: &mut [u8], at: usize, n: i64) -> usize
-    ensures { λ r. ⌜ Puts (spaced (signed n)) (now (out .entry)) at (now (out .exit)) r ⌝ }
+// Puts a row of words.
+pub fn put_words(out: &mut [u8], at: usize, words: [Word; 9]) -> usize
+    ensures { λ r. ⌜ Puts (textOf words) (now (out .entry)) at (now (out .exit)) r ⌝ }
 {
-    if n < 0 {
-        let next = put(out, at, b" -");
-        put_decimal(out, next, size(n))
-    } else {
-        put_number(out, at, size(n))
+    let mut next = at;
+    let mut i = 0;
+    while i < 9 {
+        let word = words[i];
+        next = put_word(out, next, word);
+        i += 1;
     }
-}
-
-// The same for a number of 32 bits.
-pub fn put_small(out: &mut [u8], at: usize, n: i32) -> usize
-    ensures { λ r. ⌜ Puts (spaced (signed n)) (now (out .entry)) at (now (out .exit)) r ⌝ }
-{
-    put_signed(out, at, n as i64)
+    next
 }

@@ -4,20 +4,10 @@ use Rattle.words.proofs.Laws.{puts-byte, puts-no-byte}
 use Rattle.words.proofs.text.put_byte.Statement.{statement}
 use Rattle.words.proofs.text.put_byte.Tie as tie
 
-slice-write-out : tie.Need-slice-write-out
-slice-write-out c = search needs
-
-add-result : tie.Need-add-result
-add-result c = search needs
-
-same-length : tie.Need-same-length
-same-length c = search needs
-
-returns : tie.Need-returns
-returns c = puts-byte _ _ _ (c .if1 .taken)
-
-returns-2 : tie.Need-returns-2
-returns-2 c = puts-no-byte _ _ _ (c .if1 .left)
-
 pub put-byte-spec : {M : Type 1} → statement M
-put-byte-spec = tie.close (tie.spec slice-write-out add-result same-length returns returns-2)
+put-byte-spec =
+    tie.close
+    (tie.spec
+    (λ c. search needs) (λ c. search needs) (λ c. search needs)
+    (λ c. puts-byte _ _ _ (c .if1 .taken))
+    (λ c. puts-no-byte _ _ _ (c .if1 .left)))

@@ -1,0 +1,23 @@
+-- A row, and a second of a date-time.
+use mathlib.Core.Path.{ap}
+use Rattle.words.specs.Records.{thenWords}
+use Rattle.words.proofs.Answers.{one-row, two-rows}
+use borrow.Author.Needs.{needs}
+use Rattle.words.proofs.answer.put_record.Statement.{statement}
+use Rattle.words.proofs.answer.put_record.Tie as tie
+
+pub put-record-spec : {M : Type 1} → statement M
+put-record-spec =
+    tie.close
+    (tie.spec
+    (λ c κs. search needs) (λ c κs. search needs) (λ c. search needs) (λ c κs. search needs) (λ c κs. search needs)
+    (λ c. search needs) (λ c. search needs) (λ c. search needs) (λ c. search needs) (λ c. search needs)
+    (λ c. two-rows (c .before .before .before .before .before .before .before .before .before .before .before .before .before .before .before .args .value) (c .before .before .before .before .before .before .before .before .before .before .before .before .first-row .ensures) (c .before .before .before .before .before .before .before .before .before .before .before .put-words .ensures) (rw (c .before .before .before .before .before .before .before .value .given .1, ← c .before .before .before .time2 .ensures) (c .before .before .put-words2 .ensures)))
+    (λ c. search needs)
+    (λ c. one-row (c .before .before .before .before .before .before .before .before .args .value) (c .before .before .before .before .before .first-row .ensures) (ap thenWords (c .enum-told .given .1)) (c .before .before .before .before .put-words .ensures))
+    (λ c. search needs)
+    (λ c. one-row (c .before .before .before .before .before .before .before .before .args .value) (c .before .before .before .before .before .first-row .ensures) (ap thenWords (c .enum-told2 .given .1)) (c .before .before .before .before .put-words .ensures))
+    (λ c. search needs)
+    (λ c. one-row (c .before .before .before .before .before .before .before .before .args .value) (c .before .before .before .before .before .first-row .ensures) (ap thenWords (c .enum-told3 .given .1)) (c .before .before .before .before .put-words .ensures))
+    (λ c. search needs)
+    (λ c. one-row (c .before .before .before .before .before .before .before .before .args .value) (c .before .before .before .before .before .first-row .ensures) (ap thenWords (c .enum-told4 .given .1)) (c .before .before .before .before .put-words .ensures)))
