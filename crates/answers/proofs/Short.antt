@@ -21,7 +21,7 @@ use Rattle.words.specs.declared.word.Word.{Word}
 use Rattle.words.specs.declared.word.Word.the-variants as word
 use Rattle.words.specs.Text.{decimal, decimalOf}
 use Rattle.words.specs.Words.{lettersOf, wordText, textOf}
-use Rattle.words.specs.Records.{headWords, dateWords, recordOrDash}
+use Rattle.words.specs.Records.{headWords, dateWords, firstWords, thenWords, recordOrDash}
 use Rattle.words.specs.Line.{Gives, questionOf, AnswersTo, AnswersLine}
 use Rattle.words.proofs.Laws.{puts-fits}
 use Rattle.answers.specs.Stream.{Added}
@@ -59,24 +59,32 @@ text-short : (l : List Word) → length (textOf l) ≤ 22 * length l
 text-short [] = omega arith
 text-short (w ∷ l) = simp length-append (omega (arith, word-short w, text-short l))
 
-date-few : (d : Date) → length (dateWords d) ≡ 4
+date-few : (d : Date) → length (dateWords d) ≤ 4
 date-few (YMD y m d) = omega arith
 date-few (Week y w d) = omega arith
 date-few (Ordinal y d) = omega arith
 
+first-few : (v : Record) → length (firstWords v) + length (thenWords v) ≤ 10
+first-few (record-of.Date v) = omega (arith, date-few v)
+first-few (record-of.Time v) = omega arith
+first-few (record-of.Offset v) = omega arith
+first-few (record-of.Stamp v) = omega (arith, date-few (v .date))
+first-few (record-of.Duration v) = omega arith
+
 record-few : (v : Option Record) → length (recordOrDash v) ≤ 10
 record-few none = omega arith
-record-few (some (record-of.Date v)) = omega (arith, date-few v)
-record-few (some (record-of.Time v)) = omega arith
-record-few (some (record-of.Offset v)) = omega arith
-record-few (some (record-of.Stamp v)) = simp length-append (omega (arith, date-few (v .date)))
-record-few (some (record-of.Duration v)) = omega arith
+record-few (some v) = rw length-append (first-few v)
+
+parts-short : (a b c : List ℕ) → length a ≤ 20 → length b ≤ 88 → length c ≤ 220 → length (a ++ (b ++ c)) ≤ 400
+parts-short a b c x y z = simp length-append (omega arith)
 
 answer-short : (q : Letter) (s t : List ℕ) → AnswersTo q s t → length t ≤ 400
 answer-short (Names k) s t a =
     let head = headWords (a .begun .count) (a .verdict) (a .whole .number) (a .whole .count) in
     let value = recordOrDash (a .begun .value) in
-    rw (a .says) (simp length-append (omega (arith, digits-short 20 (a .begun .number), text-short head, text-short value, record-few (a .begun .value))))
+    rw (a .says)
+    (parts-short (decimal (a .begun .number)) (textOf head) (textOf value) (digits-short 20 (a .begun .number)) (text-short head)
+    (omega (arith, text-short value, record-few (a .begun .value))))
 answer-short Unknown s t a = rw a (omega (arith, letters-short name.Unknown))
 
 line-short : (l t : List ℕ) → AnswersLine l t → length t ≤ 512

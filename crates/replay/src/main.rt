@@ -11,19 +11,35 @@ use libc::STDIN_FILENO;
 use libc::STDOUT_FILENO;
 use lines::Ended;
 
+// The longest line of a sample is shorter.
+const LIMIT: usize = 1000;
+
 // How many lines were replayed, and on how many of them we differ.
 struct Tally {
     replayed: u64,
     differ: u64,
 }
 
-// The place of the first byte `c` at or after a place, or the end.
-fn find(s: &[u8], at: usize, c: u8) -> usize
+// The tally after some lines, and the place behind the last of them.
+struct Left {
+    tally: Tally,
+    from: usize,
+}
+
+// What a block leaves: the tally, the bytes that no byte 10 has ended yet, and how many were read.
+struct Step {
+    tally: Tally,
+    held: usize,
+    got: usize,
+}
+
+// The place of the first tab, or the end.
+fn tab_of(s: &[u8]) -> usize
     ensures { λ r. ⌜ r ≤ length (now (s .entry)) ⌝ }
 {
-    let mut i = at;
+    let mut i = 0;
     while i < s.len() {
-        if s[i] == c {
+        if s[i] == 9 {
             return i;
         }
         i += 1;
@@ -57,105 +73,60 @@ fn put_text(line: &[u8], end: usize, question: &mut [u8]) -> usize
     to
 }
 
-// Puts a question's kind and a space.
-fn put_kind(kind: u8, question: &mut [u8])
+// The answer to a line's question, its kind and its text. The buffer is lent for the question.
+fn answer_to(line: &[u8], tab: usize, question: &mut [u8], out: &mut [u8]) -> usize
+    requires { ⌜ (0 < length (now line)) × (tab ≤ length (now line)) ⌝ }
     requires { ⌜ 2 ≤ length (now question) ⌝ }
 {
-    question[0] = kind;
+    question[0] = line[0];
     question[1] = 32;
-}
-
-fn answer_to(question: &[u8], n: usize, out: &mut [u8]) -> usize
-    requires { ⌜ n ≤ length (now question) ⌝ }
-{
+    let n = put_text(line, tab, question);
     words::answer::answer_line(&question[..n], out, 0)
 }
 
-// Whether our answer is the expected one with a verdict for its third word.
+// Whether our answer, up to its byte 10, is the expected one with a verdict for its third word.
 fn agrees(ours: &[u8], expected: &[u8]) -> bool {
-    let count = find(ours, 0, 32);
-    let verdict = find(ours, next(count, ours.len()), 32);
-    let behind = find(ours, next(verdict, ours.len()), 32);
-    if starts(ours, verdict, expected) {
-        ends(ours, behind, expected, verdict)
-    } else {
-        false
-    }
-}
-
-// The place behind a byte, where there is one.
-fn next(at: usize, end: usize) -> usize {
-    if at < end { at + 1 } else { at }
-}
-
-// Whether the first `n` bytes of both are the same.
-fn starts(ours: &[u8], n: usize, expected: &[u8]) -> bool {
+    let mut spaces = 0u64;
     let mut i = 0;
-    while i < n {
-        if ours.len() <= i {
-            return false;
-        }
-        if expected.len() <= i {
-            return false;
-        }
-        if ours[i] != expected[i] {
-            return false;
-        }
-        i += 1;
-    }
-    true
-}
-
-// Whether `ours` from one place on is `expected` from another on.
-fn ends(ours: &[u8], from: usize, expected: &[u8], at: usize) -> bool {
-    let mut i = from;
-    let mut j = at;
+    let mut j = 0;
     while i < ours.len() {
-        if expected.len() <= j {
-            return false;
+        let byte = ours[i];
+        if byte == 10 {
+            return expected.len() <= j;
         }
-        if ours[i] != expected[j] {
-            return false;
+        if byte == 32 {
+            spaces = std::num::wrapping_add_u64(spaces, 1);
+        }
+        if spaces != 2 {
+            if expected.len() <= j {
+                return false;
+            }
+            if byte != expected[j] {
+                return false;
+            }
+            j += 1;
         }
         i += 1;
-        j += 1;
     }
-    expected.len() <= j
+    false
 }
 
-// Whether our answer, with its byte 10, is what stands behind a line's tab.
-fn agrees_behind(line: &[u8], tab: usize, out: &[u8], n: usize) -> bool {
-    if out.len() < n {
-        return false;
-    }
-    if n < 1 {
-        return false;
-    }
+// Whether we tell of a line's text what the original told.
+fn agreed(line: &[u8], question: &mut [u8], out: &mut [u8]) -> bool
+    requires { ⌜ 2 ≤ length (now question) ⌝ }
+{
+    let tab = tab_of(line);
     if line.len() <= tab {
         return false;
     }
-    let end = n - 1;
-    let behind = tab + 1;
-    agrees(&out[..end], &line[behind..])
-}
-
-// Whether we tell of a line's text what the original told. The two buffers are lent for the question and for our answer.
-fn agreed(line: &[u8], question: &mut [u8], out: &mut [u8]) -> bool {
-    if line.len() < 3 {
-        return false;
-    }
-    if question.len() < 2 {
-        return false;
-    }
-    let tab = find(line, 0, 9);
-    put_kind(line[0], question);
-    let n = put_text(line, tab, question);
-    let m = answer_to(question, n, out);
-    agrees_behind(line, tab, out, m)
+    answer_to(line, tab, question, out);
+    agrees(out, &line[tab + 1..])
 }
 
 // The tally with one line more. A line on which we differ is printed.
-fn counted(tally: Tally, line: &[u8], question: &mut [u8], out: &mut [u8]) -> Tally {
+fn counted(tally: Tally, line: &[u8], question: &mut [u8], out: &mut [u8]) -> Tally
+    requires { ⌜ 2 ≤ length (now question) ⌝ }
+{
     let replayed = std::num::wrapping_add_u64(tally.replayed, 1);
     let differ = tally.differ;
     if agreed(line, question, out) {
@@ -169,24 +140,23 @@ fn counted(tally: Tally, line: &[u8], question: &mut [u8], out: &mut [u8]) -> Ta
     }
 }
 
-// Replays the lines of a sample.
-fn replay_lines(sample: &[u8], question: &mut [u8], out: &mut [u8]) -> Tally {
+// Replays the lines that a block ends.
+fn replay_lines(block: &[u8], question: &mut [u8], out: &mut [u8], tally: Tally) -> Left
+    requires { ⌜ 2 ≤ length (now question) ⌝ }
+{
     let mut from = 0;
-    let mut tally = Tally {
-        replayed: 0,
-        differ: 0,
-    };
+    let mut tally = tally;
     loop {
-        let ended = lines::line_end(sample, from);
+        let ended = lines::line_end(block, from);
         match ended {
             Ended::At { end } => {
-                tally = counted(tally, &sample[from..end], question, out);
+                tally = counted(tally, &block[from..end], question, out);
                 from = end + 1;
             }
             Ended::Open => break,
         }
     }
-    tally
+    Left { tally, from }
 }
 
 // Prints a number and some words behind it.
@@ -195,13 +165,54 @@ fn say(n: u64, words: &[u8]) {
     io::write_all(STDOUT_FILENO, words);
 }
 
-// A sample that fills the room is not seen whole, and is replayed as far as it goes: the count at the end shows it.
+// Reads a block behind the bytes that are held, replays what it ends, and holds the rest.
+fn replay_block(
+    buf: &mut [u8],
+    held: usize,
+    question: &mut [u8],
+    out: &mut [u8],
+    tally: Tally,
+) -> Step
+    requires { ⌜ held < length (now buf) ⌝ }
+    requires { ⌜ 2 ≤ length (now question) ⌝ }
+    ensures { λ r. ⌜ r .held ≤ 1000 ⌝ }
+{
+    let got = io::read_full(STDIN_FILENO, &mut buf[held..]);
+    let have = held + got;
+    let left = replay_lines(&buf[..have], question, out, tally);
+    let tally = left.tally;
+    let held = lines::carry(buf, left.from, have, LIMIT);
+    Step { tally, held, got }
+}
+
+// Replays block after block, as many as no sample has. A line that no byte 10 ends is not replayed: the count shows it.
+fn replay_all(buf: &mut [u8], question: &mut [u8], out: &mut [u8]) -> Tally
+    requires { ⌜ 1000 < length (now buf) ⌝ }
+    requires { ⌜ 2 ≤ length (now question) ⌝ }
+{
+    let mut tally = Tally {
+        replayed: 0,
+        differ: 0,
+    };
+    let mut held = 0;
+    let mut turns = u64::MAX;
+    while turns > 0 {
+        let step = replay_block(buf, held, question, out, tally);
+        tally = step.tally;
+        if step.got == 0 {
+            return tally;
+        }
+        held = step.held;
+        turns -= 1;
+    }
+    tally
+}
+
 fn main() {
-    let mut room = [0u8; 524288];
+    let mut buf = io::large_buffer();
     let mut question = [0u8; 256];
     let mut out = [0u8; 1024];
-    let n = io::read_full(STDIN_FILENO, &mut room);
-    let tally = replay_lines(&room[..n], &mut question, &mut out);
+    let tally = replay_all(&mut buf, &mut question, &mut out);
     say(tally.replayed, b" replayed, ");
     say(tally.differ, b" differ\n");
 }
