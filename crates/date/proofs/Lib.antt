@@ -2,4 +2,3 @@ pub mod Parts
 pub mod Dash
 pub mod Laws
 pub mod Once
-pub mod Plain

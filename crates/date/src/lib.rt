@@ -6,7 +6,6 @@ ghost use Rattle.parser.specs.Reading.{alt, Says};
 ghost use Rattle.parser.specs.Answer.{Begins, Ended, Rest};
 ghost use Rattle.parser.specs.Read.{markFound, markMore, numberFound, numberMore, placeAfter};
 ghost use Rattle.date.specs.Rules.{digitsOfYear, year, dash, weekOfYear, week, dayOfWeek, weekAndDay, mdNumeric, dayOfYear, ordinal, dayOfMonth, monthAndDay, date};
-ghost use Rattle.date.specs.Plain.{plainDate};
 ghost use Rattle.date.specs.Answer.{yearFound, yearMore, dayFound, dayMore, dateFound, dateMore, dateTold, afterYear};
 use parser::Mark;
 use parser::Number;
@@ -14,6 +13,8 @@ use parser::Signed;
 use types::Date;
 use types::Refusal;
 use types::Verdict;
+
+pub mod plain;
 
 // What a year finds: it is never open once it has its four digits.
 pub enum YearFound {
@@ -344,78 +345,11 @@ pub fn date_at(s: &[u8], at: usize) -> DateFound
     }
 }
 
-// A date of the plain form; or no such date, and the rule has to tell.
-pub enum PlainDate {
-    Got { value: Date },
-    Other,
-}
-
-// YYYY-MM-DD at the very beginning, its digits read at one go.
-pub fn plain_date(s: &[u8]) -> PlainDate
-    ensures { λ r. ⌜ r ≡ plainDate (now (s .entry)) ⌝ }
-{
-    if s.len() < 10 {
-        return PlainDate::Other;
-    }
-    if s[4] != 45 {
-        return PlainDate::Other;
-    }
-    if s[7] != 45 {
-        return PlainDate::Other;
-    }
-    let century = parser::two_digits(s[0], s[1], 1, 99);
-    if century == parser::NO_NUMBER {
-        return PlainDate::Other;
-    }
-    let rest = parser::two_digits(s[2], s[3], 0, 99);
-    if rest == parser::NO_NUMBER {
-        return PlainDate::Other;
-    }
-    let month = parser::two_digits(s[5], s[6], 1, 12);
-    if month == parser::NO_NUMBER {
-        return PlainDate::Other;
-    }
-    let day = parser::two_digits(s[8], s[9], 1, 31);
-    if day == parser::NO_NUMBER {
-        return PlainDate::Other;
-    }
-    PlainDate::Got {
-        value: Date::YMD {
-            year: types::with_sign(false, (century * 100 + rest) as u16),
-            month,
-            day,
-        },
-    }
-}
-
-// A date at the very beginning. The plain form is tried before the rule.
-fn date_begun(s: &[u8]) -> DateFound
-    ensures { λ r. ⌜ Says date (now (s .entry)) 0 (dateFound r) (dateMore r) ⌝ }
-{
-    let plain = plain_date(s);
-    match plain {
-        PlainDate::Got { value } => DateFound::Got {
-            value,
-            next: 10,
-            more: false,
-        },
-        PlainDate::Other => {
-            // taken apart and made anew: else the plain answer, too, would go through memory
-            let found = date_at(s, 0);
-            match found {
-                DateFound::Got { value, next, more } => DateFound::Got { value, next, more },
-                DateFound::Wrong => DateFound::Wrong,
-                DateFound::Cut => DateFound::Cut,
-            }
-        }
-    }
-}
-
 // Reads the date that the bytes begin with.
 pub fn date(s: &[u8]) -> DateRead
     ensures { λ r. ⌜ Begins 7 date (now (s .entry)) (dateTold (r .answer)) (r .verdict) ⌝ }
 {
-    let found = date_begun(s);
+    let found = plain::date_begun(s);
     match found {
         DateFound::Got { value, next, more } => DateRead {
             answer: DateAnswer::Record { value, count: next },

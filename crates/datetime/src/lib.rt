@@ -3,17 +3,16 @@ ghost use mathlib.Core.Path.{_≡_};
 ghost use Rattle.parser.specs.Reading.{Says, SaysOn, no};
 ghost use Rattle.parser.specs.Answer.{Begins, Ended, Rest};
 ghost use Rattle.datetime.specs.Rules.{timeOf, afterDate, dateTime};
-ghost use Rattle.datetime.specs.Plain.{dateOfStamp, stampOf, plainStamp};
 ghost use Rattle.datetime.specs.Answer.{dateTimeFound, dateTimeMore, dateTimeTold};
 use date::DateFound;
-use date::PlainDate;
 use parser::Mark;
-use time::PlainTime;
 use time::TimeFound;
 use types::Date;
 use types::DateTime;
 use types::Refusal;
 use types::Verdict;
+
+mod plain;
 
 // What reading at a place finds. `more`: the input ended where a byte more could still matter. Wrong: nothing, whatever follows.
 // Cut: nothing yet, but the input ended where it could still come right.
@@ -95,86 +94,11 @@ pub fn datetime_at(s: &[u8], at: usize) -> DateTimeFound
     }
 }
 
-// A date-time of the plain form; or no such date-time, and the rule has to tell. `more`: the input ended behind it.
-enum PlainStamp {
-    Got {
-        value: DateTime,
-        next: usize,
-        more: bool,
-    },
-    Other,
-}
-
-// YYYY-MM-DDT, where a clock has room behind it
-fn date_of_stamp(s: &[u8]) -> PlainDate
-    ensures { λ r. ⌜ r ≡ dateOfStamp (now (s .entry)) ⌝ }
-{
-    if s.len() < 19 {
-        return PlainDate::Other;
-    }
-    if s[10] != 84 {
-        return PlainDate::Other;
-    }
-    date::plain_date(s)
-}
-
-fn stamp_of(time: PlainTime, date: PlainDate) -> PlainStamp
-    ensures { λ r. ⌜ r ≡ stampOf time date ⌝ }
-{
-    match time {
-        PlainTime::Got {
-            value: time,
-            next,
-            more,
-        } => match date {
-            PlainDate::Got { value: day } => PlainStamp::Got {
-                value: DateTime { date: day, time },
-                next,
-                more,
-            },
-            PlainDate::Other => PlainStamp::Other,
-        },
-        PlainTime::Other => PlainStamp::Other,
-    }
-}
-
-// YYYY-MM-DDTHH:MM:SS[.mmm], alone or with an offset
-fn plain_stamp(s: &[u8]) -> PlainStamp
-    ensures { λ r. ⌜ r ≡ plainStamp (now (s .entry)) ⌝ }
-{
-    let date = date_of_stamp(s);
-    let clock = time::plain_clock(s, 11);
-    let exact = time::plain_time(s, 23, clock, time::plain_millisecond(s, 19));
-    let plain = time::first_plain(exact, time::plain_time(s, 19, clock, 0));
-    stamp_of(plain, date)
-}
-
-// A date-time at the very beginning. The plain form is tried before the rule.
-fn datetime_begun(s: &[u8]) -> DateTimeFound
-    ensures { λ r. ⌜ Says dateTime (now (s .entry)) 0 (dateTimeFound r) (dateTimeMore r) ⌝ }
-{
-    let plain = plain_stamp(s);
-    match plain {
-        PlainStamp::Got { value, next, more } => DateTimeFound::Got { value, next, more },
-        PlainStamp::Other => {
-            // taken apart and made anew: else the plain answer, too, would go through memory
-            let found = datetime_at(s, 0);
-            match found {
-                DateTimeFound::Got { value, next, more } => {
-                    DateTimeFound::Got { value, next, more }
-                }
-                DateTimeFound::Wrong => DateTimeFound::Wrong,
-                DateTimeFound::Cut => DateTimeFound::Cut,
-            }
-        }
-    }
-}
-
 // Reads the date-time that the bytes begin with.
 pub fn datetime(s: &[u8]) -> DateTimeRead
     ensures { λ r. ⌜ Begins 10 dateTime (now (s .entry)) (dateTimeTold (r .answer)) (r .verdict) ⌝ }
 {
-    let found = datetime_begun(s);
+    let found = plain::datetime_begun(s);
     match found {
         DateTimeFound::Got { value, next, more } => DateTimeRead {
             answer: DateTimeAnswer::Record { value, count: next },

@@ -9,9 +9,10 @@ use lib.ListN.{length, getD}
 use lib.Dec.{ltb, leb, eqb}
 use borrow.Author.Tests.{ltb-true, ltb-false, leb-true, lt-ltb, le-ltb, le-leb, eqb-true, eq-eqb, ne-eqb, not-false, not-true}
 use Rattle.parser.specs.Reading.{Found, no, got, stop, Reader, lit, seq, opt, map, mapFound, give, pick, or, and, Says}
-use Rattle.parser.specs.Digits.{isDigit, twoNumber, twoDigits, number, numberFrom, runAt, ofRun, limit, run}
+use Rattle.parser.specs.Digits.{isDigit, number, numberFrom, runAt, ofRun, limit, run}
 use Rattle.parser.proofs.Fields.{and-first, and-second, and-right, DigitAt, OtherAt, above-digits}
-use Rattle.parser.proofs.Two.{is-digit, two-is, two-some}
+use Rattle.looks.specs.Digits.{twoNumber, twoDigits}
+use Rattle.looks.proofs.Two.{is-digit, two-is, two-some}
 use Rattle.parser.proofs.Runs.{run-step, run-other, run-end}
 use Rattle.parser.proofs.Places.{no≢got, got-place, stop≢got}
 use Rattle.parser.proofs.Says.{says-opt, says-seq-got, says-seq-stop}

@@ -135,20 +135,20 @@ fn two_part(s: &[u8], at: usize, letter: u8) -> u32
     ensures absent { λ r. ⌜ (r ≡ 254 → partAt (now (s .entry)) at letter ≡ absentPart at) ⌝ }
 {
     if letter <= 57 {
-        return parser::NO_NUMBER;
+        return looks::NO_NUMBER;
     }
     if s.len() < 3 {
-        return parser::NO_NUMBER;
+        return looks::NO_NUMBER;
     }
     if s.len() - 3 < at {
-        return parser::NO_NUMBER;
+        return looks::NO_NUMBER;
     }
     let third = s[at + 2];
     if third == letter {
-        return parser::two_digits(s[at], s[at + 1], 0, 99);
+        return looks::two_digits(s[at], s[at + 1], 0, 99);
     }
     if third <= 57 {
-        parser::NO_NUMBER
+        looks::NO_NUMBER
     } else {
         ABSENT
     }

@@ -6,7 +6,6 @@ ghost use Rattle.types.specs.Sums.{signedOffset};
 ghost use Rattle.parser.specs.Reading.{Says, got, no, pick};
 ghost use Rattle.parser.specs.Answer.{Begins, Ended, Rest, refused, ended};
 ghost use Rattle.offset.specs.Rules.{offset, offsetHour, offsetMinute, offsetZulu, allowed};
-ghost use Rattle.offset.specs.Plain.{plainShift, plainSigned, plainOffset};
 ghost use Rattle.offset.specs.Answer.{offsetFound, offsetMore, offsetTold};
 use parser::Mark;
 use parser::Number;
@@ -15,6 +14,8 @@ use types::MadeOffset;
 use types::Offset;
 use types::Refusal;
 use types::Verdict;
+
+pub mod plain;
 
 // What reading at a place finds. `more`: the input ended where a byte more could still matter. Wrong: nothing, whatever follows.
 // Cut: nothing yet, but the input ended where it could still come right.
@@ -135,115 +136,11 @@ pub fn offset_at(s: &[u8], at: usize) -> OffsetFound
     }
 }
 
-// What stands at a place where an offset may: the end of the input, an offset of a plain form, or something for the rule to tell.
-pub enum PlainOffset {
-    End,
-    Got { value: Offset, next: usize },
-    Other,
-}
-
-// The offset of a sign, an hour and a minute. Minus zero is left to the rule.
-fn plain_shift(minus: bool, hour: u32, minute: u32, next: usize) -> PlainOffset
-    requires { ⌜ (hour ≤ 255) × (minute ≤ 255) ⌝ }
-    ensures { λ r. ⌜ r ≡ plainShift minus hour minute next ⌝ }
-{
-    if minus {
-        if minus_zero(true, hour, minute) {
-            return PlainOffset::Other;
-        }
-        return PlainOffset::Got {
-            value: Offset {
-                hours: types::with_sign(true, hour as u16),
-                minutes: types::with_sign(true, minute as u16),
-            },
-            next,
-        };
-    }
-    PlainOffset::Got {
-        value: Offset {
-            hours: types::with_sign(false, hour as u16),
-            minutes: types::with_sign(false, minute as u16),
-        },
-        next,
-    }
-}
-
-// HH:MM after the sign at `at`, the digits read at one go
-fn plain_signed(s: &[u8], at: usize, minus: bool) -> PlainOffset
-    ensures { λ r. ⌜ r ≡ plainSigned minus (now (s .entry)) at ⌝ }
-{
-    if s.len() < 6 {
-        return PlainOffset::Other;
-    }
-    if s.len() - 6 < at {
-        return PlainOffset::Other;
-    }
-    if s[at + 3] != 58 {
-        return PlainOffset::Other;
-    }
-    let hour = parser::two_digits(s[at + 1], s[at + 2], 0, 23);
-    if hour == parser::NO_NUMBER {
-        return PlainOffset::Other;
-    }
-    let minute = parser::two_digits(s[at + 4], s[at + 5], 0, 59);
-    if minute == parser::NO_NUMBER {
-        return PlainOffset::Other;
-    }
-    plain_shift(minus, hour, minute, at + 6)
-}
-
-// Z or (+|-)HH:MM
-pub fn plain_offset(s: &[u8], at: usize) -> PlainOffset
-    ensures { λ r. ⌜ r ≡ plainOffset (now (s .entry)) at ⌝ }
-{
-    if s.len() <= at {
-        return PlainOffset::End;
-    }
-    let b = s[at];
-    let minus = b == 45;
-    if !minus {
-        if b != 43 {
-            if b == 90 {
-                return PlainOffset::Got {
-                    value: Offset::ZERO,
-                    next: at + 1,
-                };
-            }
-            return PlainOffset::Other;
-        }
-    }
-    plain_signed(s, at, minus)
-}
-
-// An offset at the very beginning. The plain forms are tried before the rule.
-fn offset_begun(s: &[u8]) -> OffsetFound
-    ensures { λ r. ⌜ Says offset (now (s .entry)) 0 (offsetFound r) (offsetMore r) ⌝ }
-{
-    let plain = plain_offset(s, 0);
-    match plain {
-        PlainOffset::Got { value, next } => OffsetFound::Got {
-            value,
-            next,
-            more: false,
-        },
-        PlainOffset::End => OffsetFound::Cut,
-        PlainOffset::Other => {
-            // taken apart and made anew: else the plain answer, too, would go through memory
-            let found = offset_at(s, 0);
-            match found {
-                OffsetFound::Got { value, next, more } => OffsetFound::Got { value, next, more },
-                OffsetFound::Wrong => OffsetFound::Wrong,
-                OffsetFound::Cut => OffsetFound::Cut,
-            }
-        }
-    }
-}
-
 // Reads the offset that the bytes begin with.
 pub fn offset(s: &[u8]) -> OffsetRead
     ensures { λ r. ⌜ Begins 3 offset (now (s .entry)) (offsetTold (r .answer)) (r .verdict) ⌝ }
 {
-    let found = offset_begun(s);
+    let found = plain::offset_begun(s);
     match found {
         OffsetFound::Got { value, next, more } => OffsetRead {
             answer: OffsetAnswer::Record { value, count: next },

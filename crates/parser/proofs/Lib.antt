@@ -9,6 +9,4 @@ pub mod RunLeaves
 pub mod Verdict
 pub mod Alike
 pub mod Says
-pub mod Two
-pub mod Thousandths
 pub mod General

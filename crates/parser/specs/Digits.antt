@@ -40,13 +40,6 @@ digitsMore lo hi (suc n) v s at =
 unfoldable pub field : ℕ → ℕ → ℕ → Reader ℕ
 field n lo hi = record { reads = digitsFrom lo hi n 0; more = digitsMore lo hi n 0 }
 
--- two bytes read at one go: their number where they are digits and it lies from lo to hi, and else 255
-abbrev pub twoNumber : ℕ → ℕ → ℕ
-twoNumber a b = (a - 48) * 10 + (b - 48)
-
-unfoldable pub twoDigits : ℕ → ℕ → ℕ → ℕ → ℕ
-twoDigits a b lo hi = pick (and (isDigit a) (and (isDigit b) (within lo hi (twoNumber a b)))) (twoNumber a b) 255
-
 -- the digits at the front of a list, as many as there are
 unfoldable pub digits : List ℕ → List ℕ
 digits [] = []

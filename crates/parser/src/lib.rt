@@ -5,7 +5,7 @@ ghost use Prim.Native.Nat.{_+_, _-_, _^_, _<_};
 ghost use lib.Dec.{leb, ltb};
 ghost use lib.ListN.{length, drop, replicate};
 ghost use Rattle.parser.specs.Reading.{lit, or, Says};
-ghost use Rattle.parser.specs.Digits.{field, twoDigits, run, fraction, reach, lowest, highest, runAt, numberFrom};
+ghost use Rattle.parser.specs.Digits.{field, run, fraction, reach, lowest, highest, runAt, numberFrom};
 ghost use Rattle.parser.specs.Fields.{either, precededBy, month, day, hour, minute, second, signed};
 ghost use Rattle.parser.specs.Answer.{verdictOf};
 ghost use Rattle.parser.specs.Read.{placeAfter, orLeftOut, cutField, markFound, markMore, numberFound, numberMore, signFound, signMore, foundRun, runFound, runMore};
@@ -140,33 +140,6 @@ pub fn take_digits_in_range(s: &[u8], at: usize, places: usize, lo: u32, hi: u32
         value: value as u32,
         next,
     }
-}
-
-// What `two_digits` gives where two bytes are no number of the range.
-pub const NO_NUMBER: u32 = 255;
-
-// The number of two digits, from `lo` to `hi`. `both` is 528 at `00` and 627 at `99`, and where the second byte is a digit, it lies
-// between these only if the first is one too.
-pub fn two_digits(a: u8, b: u8, lo: u32, hi: u32) -> u32
-    ensures { λ r. ⌜ r ≡ twoDigits a b lo hi ⌝ }
-{
-    if b < 48 {
-        return NO_NUMBER;
-    }
-    if 57 < b {
-        return NO_NUMBER;
-    }
-    let both = (a as u64) * 10 + (b as u64);
-    if both < (lo as u64) + 528 {
-        return NO_NUMBER;
-    }
-    if (hi as u64) + 528 < both {
-        return NO_NUMBER;
-    }
-    if 627 < both {
-        return NO_NUMBER;
-    }
-    (both - 528) as u32
 }
 
 // Exactly 1 digit

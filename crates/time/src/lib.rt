@@ -4,10 +4,8 @@ ghost use mathlib.Core.Option.{none};
 ghost use Rattle.parser.specs.Reading.{Says, SaysOn, got};
 ghost use Rattle.parser.specs.Answer.{Begins, Ended, Rest, refused, ended};
 ghost use Rattle.time.specs.Rules.{clockOf, timeOf, millisecond, secondMillisecond, minuteSecondMillisecond, timeOffset, afterHour, baseTime, time};
-ghost use Rattle.time.specs.Plain.{plainClock, plainMillisecond, withOffset, plainTime, firstPlain};
 ghost use Rattle.time.specs.Answer.{clockFound, clockMore, midnightAt, orLeftOut, timeFound, timeMore, timeTold};
 use offset::OffsetFound;
-use offset::PlainOffset;
 use parser::Mark;
 use parser::Number;
 use parser::Run;
@@ -15,6 +13,8 @@ use types::Refusal;
 use types::Time;
 use types::TimeOffset;
 use types::Verdict;
+
+pub mod plain;
 
 // What reading minute, second and fraction at a place finds; an absent one is 0. `more`, Wrong and Cut: as in TimeFound.
 pub enum ClockFound {
@@ -255,177 +255,11 @@ pub fn time_at(s: &[u8], at: usize) -> TimeFound
     base_time(s, parser::past(s, at, 84))
 }
 
-// A clock of the plain form; or no such clock, and the rule has to tell.
-pub enum PlainClock {
-    Got { hour: u32, minute: u32, second: u32 },
-    Other,
-}
-
-// HH:MM:SS, its digits read at one go
-pub fn plain_clock(s: &[u8], at: usize) -> PlainClock
-    ensures { λ r. ⌜ r ≡ plainClock (now (s .entry)) at ⌝ }
-{
-    if s.len() < 8 {
-        return PlainClock::Other;
-    }
-    if s.len() - 8 < at {
-        return PlainClock::Other;
-    }
-    if s[at + 2] != 58 {
-        return PlainClock::Other;
-    }
-    if s[at + 5] != 58 {
-        return PlainClock::Other;
-    }
-    let hour = parser::two_digits(s[at], s[at + 1], 0, 23);
-    if hour == parser::NO_NUMBER {
-        return PlainClock::Other;
-    }
-    let minute = parser::two_digits(s[at + 3], s[at + 4], 0, 59);
-    if minute == parser::NO_NUMBER {
-        return PlainClock::Other;
-    }
-    let second = parser::two_digits(s[at + 6], s[at + 7], 0, 60);
-    if second == parser::NO_NUMBER {
-        return PlainClock::Other;
-    }
-    PlainClock::Got {
-        hour,
-        minute,
-        second,
-    }
-}
-
-// What `plain_millisecond` gives where no point with three digits stands.
-pub const NO_MILLISECOND: u32 = 1000;
-
-// .mmm; a fourth digit is for whoever reads on to see
-pub fn plain_millisecond(s: &[u8], at: usize) -> u32
-    ensures { λ r. ⌜ r ≡ plainMillisecond (now (s .entry)) at ⌝ }
-{
-    if s.len() < 4 {
-        return NO_MILLISECOND;
-    }
-    if s.len() - 4 < at {
-        return NO_MILLISECOND;
-    }
-    if s[at] != 46 {
-        return NO_MILLISECOND;
-    }
-    let tenths = parser::two_digits(48, s[at + 1], 0, 9);
-    if tenths == parser::NO_NUMBER {
-        return NO_MILLISECOND;
-    }
-    let rest = parser::two_digits(s[at + 2], s[at + 3], 0, 99);
-    if rest == parser::NO_NUMBER {
-        return NO_MILLISECOND;
-    }
-    tenths * 100 + rest
-}
-
-// A time of the plain form; or no such time, and the rule has to tell. `more`: the input ended behind it.
-pub enum PlainTime {
-    Got {
-        value: Time,
-        next: usize,
-        more: bool,
-    },
-    Other,
-}
-
-// A clock and milliseconds with what stands behind them at `at`: the end of the input, or an offset.
-pub fn plain_time(s: &[u8], at: usize, clock: PlainClock, millisecond: u32) -> PlainTime
-    ensures { λ r. ⌜ r ≡ plainTime (now (s .entry)) at clock millisecond ⌝ }
-{
-    match clock {
-        PlainClock::Got {
-            hour,
-            minute,
-            second,
-        } => {
-            if 999 < millisecond {
-                return PlainTime::Other;
-            }
-            let offset = offset::plain_offset(s, at);
-            with_offset(hour, minute, second, millisecond * 1000000, at, offset)
-        }
-        PlainClock::Other => PlainTime::Other,
-    }
-}
-
-fn with_offset(
-    hour: u32,
-    minute: u32,
-    second: u32,
-    nanosecond: u32,
-    at: usize,
-    offset: PlainOffset,
-) -> PlainTime
-    ensures { λ r. ⌜ r ≡ withOffset hour minute second nanosecond at offset ⌝ }
-{
-    match offset {
-        PlainOffset::End => PlainTime::Got {
-            value: Time {
-                hour,
-                minute,
-                second,
-                nanosecond,
-                offset: TimeOffset::Absent, // nothing stands there
-            },
-            next: at,
-            more: true,
-        },
-        PlainOffset::Got { value, next } => PlainTime::Got {
-            value: Time {
-                hour,
-                minute,
-                second,
-                nanosecond,
-                offset: TimeOffset::Given(value),
-            },
-            next,
-            more: false,
-        },
-        PlainOffset::Other => PlainTime::Other,
-    }
-}
-
-// The first of two that is there.
-pub fn first_plain(first: PlainTime, second: PlainTime) -> PlainTime
-    ensures { λ r. ⌜ r ≡ firstPlain first second ⌝ }
-{
-    match first {
-        PlainTime::Got { value, next, more } => PlainTime::Got { value, next, more },
-        PlainTime::Other => second,
-    }
-}
-
-// A time at the very beginning. The plain forms HH:MM:SS.mmm and HH:MM:SS, alone or with an offset, are tried before the rule.
-fn time_begun(s: &[u8]) -> TimeFound
-    ensures { λ r. ⌜ Says time (now (s .entry)) 0 (timeFound r) (timeMore r) ⌝ }
-{
-    let clock = plain_clock(s, 0);
-    let exact = plain_time(s, 12, clock, plain_millisecond(s, 8));
-    let plain = first_plain(exact, plain_time(s, 8, clock, 0));
-    match plain {
-        PlainTime::Got { value, next, more } => TimeFound::Got { value, next, more },
-        PlainTime::Other => {
-            // taken apart and made anew: else the plain answer, too, would go through memory
-            let found = time_at(s, 0);
-            match found {
-                TimeFound::Got { value, next, more } => TimeFound::Got { value, next, more },
-                TimeFound::Wrong => TimeFound::Wrong,
-                TimeFound::Cut => TimeFound::Cut,
-            }
-        }
-    }
-}
-
 // Reads the time that the bytes begin with.
 pub fn time(s: &[u8]) -> TimeRead
     ensures { λ r. ⌜ Begins 3 time (now (s .entry)) (timeTold (r .answer)) (r .verdict) ⌝ }
 {
-    let found = time_begun(s);
+    let found = plain::time_begun(s);
     match found {
         TimeFound::Got { value, next, more } => TimeRead {
             answer: TimeAnswer::Record { value, count: next },

@@ -7,8 +7,8 @@ use native.Mathlib.Omega.{arith}
 use lib.ListN.{length, getD}
 use lib.Dec.{eqb}
 use borrow.Author.Tests.{ne-eqb}
-use Rattle.parser.specs.Digits.{twoDigits}
-use Rattle.parser.proofs.Two.{two-is, two-ends, two-some}
+use Rattle.looks.specs.Digits.{twoDigits}
+use Rattle.looks.proofs.Two.{two-is, two-ends, two-some}
 use Rattle.duration.specs.Items.{partOf, absentPart, partAt}
 use Rattle.duration.proofs.Items.{two-digits-there, third-tells}
 use borrow.Author.Needs.{needs}

@@ -1,0 +1,3 @@
+pub mod Choices
+pub mod Two
+pub mod Thousandths

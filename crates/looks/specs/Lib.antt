@@ -1,0 +1,4 @@
+pub mod Digits
+pub mod Offset
+pub mod Date
+pub mod Clock
