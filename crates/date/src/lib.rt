@@ -14,6 +14,7 @@ use types::Date;
 use types::Refusal;
 use types::Verdict;
 
+// What is read at one go, before the rule is asked.
 pub mod plain;
 
 // What a year finds: it is never open once it has its four digits.

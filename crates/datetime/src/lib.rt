@@ -12,6 +12,7 @@ use types::DateTime;
 use types::Refusal;
 use types::Verdict;
 
+// What is read at one go, before the rule is asked.
 mod plain;
 
 // What reading at a place finds. `more`: the input ended where a byte more could still matter. Wrong: nothing, whatever follows.

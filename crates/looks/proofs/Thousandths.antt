@@ -9,9 +9,9 @@ use lib.Dec.{eqb}
 use borrow.Author.Tests.{lt-ltb, ltb-true}
 use Rattle.parser.specs.Reading.{got, Says}
 use Rattle.parser.specs.Digits.{fraction, runAt, numberFrom, atTheEnd}
-use Rattle.looks.specs.Digits.{twoDigits}
 use Rattle.parser.proofs.Fields.{DigitAt, OtherAt}
 use Rattle.parser.proofs.Runs.{run-step, run-other, run-end, end-is, end-is-not}
+use Rattle.looks.specs.Digits.{twoDigits}
 use Rattle.looks.proofs.Two.{two-is, two-some}
 
 module _ (s : List ℕ) (at : ℕ) where

@@ -9,12 +9,12 @@ use lib.Dec.{leb, eqb}
 use borrow.Author.Tests.{leb-true, lt-ltb, le-leb}
 use Rattle.parser.specs.Reading.{no, got, lit, pick, and, within, Says}
 use Rattle.parser.specs.Digits.{isDigit, digitsFrom, digitsMore, reach, field}
-use Rattle.looks.specs.Digits.{twoNumber, twoDigits}
 use Rattle.parser.specs.Fields.{precededBy}
 use Rattle.parser.specs.Read.{placeAfter}
 use Rattle.parser.proofs.Fields.{true≢false, and-first, and-second, DigitAt, OtherAt}
 use Rattle.parser.proofs.Leaves.{digit-is-not}
 use Rattle.parser.proofs.General.{field-eager, says-past}
+use Rattle.looks.specs.Digits.{twoNumber, twoDigits}
 
 -- a byte that is a digit
 pub record IsDigit (b : ℕ) : Type 0 where

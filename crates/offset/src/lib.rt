@@ -15,6 +15,7 @@ use types::Offset;
 use types::Refusal;
 use types::Verdict;
 
+// What is read at one go, before the rule is asked.
 pub mod plain;
 
 // What reading at a place finds. `more`: the input ended where a byte more could still matter. Wrong: nothing, whatever follows.

@@ -14,6 +14,7 @@ use types::Time;
 use types::TimeOffset;
 use types::Verdict;
 
+// What is read at one go, before the rule is asked.
 pub mod plain;
 
 // What reading minute, second and fraction at a place finds; an absent one is 0. `more`, Wrong and Cut: as in TimeFound.

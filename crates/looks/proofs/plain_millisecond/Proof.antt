@@ -1,34 +1,71 @@
--- Each return by the tests that led there.
+-- Each return by the tests that led there: the laws say so of any bytes, and are then told which.
+use Prim.Native.Nat.{ℕ, _+_, _*_, _-_}
+use mathlib.Core.List.{List}
+use mathlib.Core.Bool.{true, false}
+use mathlib.Core.Path.{_≡_}
 use native.Mathlib.Omega.{arith}
+use lib.ListN.{length, getD}
+use lib.Dec.{ltb, eqb}
 use borrow.Author.Tests.{lt-ltb, le-ltb, eq-eqb, ne-eqb}
-use Rattle.looks.proofs.Two.{within-255}
+use Rattle.looks.specs.Digits.{twoDigits}
 use Rattle.looks.specs.Clock.{plainMillisecond}
+use Rattle.looks.proofs.Two.{within-255}
 use borrow.Author.Needs.{needs}
 use Rattle.looks.proofs.plain_millisecond.Statement.{statement}
 use Rattle.looks.proofs.plain_millisecond.Tie as tie
 
+module _ (s : List ℕ) (at : ℕ) where
+  too-short : ltb (length s) 4 ≡ true → 1000 ≡ plainMillisecond s at
+  unfolding plainMillisecond
+  too-short l = rw l
+
+  module _ (l : ltb (length s) 4 ≡ false) where
+    too-late : ltb (length s - 4) at ≡ true → 1000 ≡ plainMillisecond s at
+    unfolding plainMillisecond
+    too-late k = rw (l, k)
+
+    module _ (k : ltb (length s - 4) at ≡ false) where
+      no-point : eqb (getD s at 0) 46 ≡ false → 1000 ≡ plainMillisecond s at
+      unfolding plainMillisecond
+      no-point e = rw (l, k, e)
+
+      module _ (e : eqb (getD s at 0) 46 ≡ true) {t : ℕ} (is-t : t ≡ twoDigits 48 (getD s (at + 1) 0) 0 9) where
+        no-tenths : eqb t 255 ≡ true → 1000 ≡ plainMillisecond s at
+        unfolding plainMillisecond
+        no-tenths n = rw (l, k, e, ← is-t, n)
+
+        module _ (some-t : eqb t 255 ≡ false) {r : ℕ} (is-r : r ≡ twoDigits (getD s (at + 2) 0) (getD s (at + 3) 0) 0 99) where
+          no-rest : eqb r 255 ≡ true → 1000 ≡ plainMillisecond s at
+          unfolding plainMillisecond
+          no-rest n = rw (l, k, e, ← is-t, some-t, ← is-r, n)
+
+          all-there : eqb r 255 ≡ false → t * 100 + r ≡ plainMillisecond s at
+          unfolding plainMillisecond
+          all-there n = rw (l, k, e, ← is-t, some-t, ← is-r, n)
+
 returns : tie.Need-returns
-unfolding plainMillisecond
-returns c = simp (lt-ltb _ _ (c .if1 .taken))
+returns c =
+    let a = c .before .before .args in
+    too-short (a .s .now) (a .at) (lt-ltb _ _ (c .if1 .taken))
 
 sub-if2 : tie.Need-sub-if2
 sub-if2 c = search needs
 
 returns-2 : tie.Need-returns-2
-unfolding plainMillisecond
 returns-2 c =
     let x1 = c .before in
-    simp (le-ltb _ _ (x1 .if1 .left), lt-ltb _ _ (c .if2 .taken))
+    let a = x1 .before .before .args in
+    too-late (a .s .now) (a .at) (le-ltb _ _ (x1 .if1 .left)) (lt-ltb _ _ (c .if2 .taken))
 
 shared-slice-read-if3 : tie.Need-shared-slice-read-if3
 shared-slice-read-if3 c = search needs
 
 returns-3 : tie.Need-returns-3
-unfolding plainMillisecond
 returns-3 c =
     let x1 = c .before .before in
     let x2 = x1 .before in
-    simp (le-ltb _ _ (x2 .if1 .left), le-ltb _ _ (x1 .if2 .left), ne-eqb _ _ (c .if3 .taken))
+    let a = x2 .before .before .args in
+    no-point (a .s .now) (a .at) (le-ltb _ _ (x2 .if1 .left)) (le-ltb _ _ (x1 .if2 .left)) (ne-eqb _ _ (c .if3 .taken))
 
 add-two-digits : tie.Need-add-two-digits
 add-two-digits c = search needs
@@ -40,13 +77,13 @@ two-digits-requires : tie.Need-two-digits-requires
 two-digits-requires c κs = search needs
 
 returns-4 : tie.Need-returns-4
-unfolding plainMillisecond
 returns-4 c =
     let x1 = c .before in
     let x2 = x1 .before .before in
     let x3 = x2 .before .before in
     let x4 = x3 .before in
-    simp (le-ltb _ _ (x4 .if1 .left), le-ltb _ _ (x3 .if2 .left), eq-eqb _ _ (x2 .if3 .left), rw (x1 .two-digits .ensures) at (eq-eqb _ _ (c .if4 .taken)))
+    let a = x4 .before .before .args in
+    no-tenths (a .s .now) (a .at) (le-ltb _ _ (x4 .if1 .left)) (le-ltb _ _ (x3 .if2 .left)) (eq-eqb _ _ (x2 .if3 .left)) (x1 .two-digits .ensures) (eq-eqb _ _ (c .if4 .taken))
 
 add-two-digits-2 : tie.Need-add-two-digits-2
 add-two-digits-2 c = search needs
@@ -64,7 +101,6 @@ two-digits-requires-2 : tie.Need-two-digits-requires-2
 two-digits-requires-2 c κs = search needs
 
 returns-5 : tie.Need-returns-5
-unfolding plainMillisecond
 returns-5 c =
     let x1 = c .before in
     let x2 = x1 .before .before .before in
@@ -72,7 +108,8 @@ returns-5 c =
     let x4 = x3 .before .before in
     let x5 = x4 .before .before in
     let x6 = x5 .before in
-    simp (le-ltb _ _ (x6 .if1 .left), le-ltb _ _ (x5 .if2 .left), eq-eqb _ _ (x4 .if3 .left), rw (x3 .two-digits .ensures) at (ne-eqb _ _ (x2 .if4 .left)), rw (x1 .two-digits2 .ensures) at (eq-eqb _ _ (c .if5 .taken)))
+    let a = x6 .before .before .args in
+    no-rest (a .s .now) (a .at) (le-ltb _ _ (x6 .if1 .left)) (le-ltb _ _ (x5 .if2 .left)) (eq-eqb _ _ (x4 .if3 .left)) (x3 .two-digits .ensures) (ne-eqb _ _ (x2 .if4 .left)) (x1 .two-digits2 .ensures) (eq-eqb _ _ (c .if5 .taken))
 
 mul-result : tie.Need-mul-result
 mul-result c =
@@ -87,7 +124,6 @@ add-result c =
     omega (arith, within-255 _ _ _ _ _ (x2 .two-digits .ensures), within-255 _ _ _ _ _ (x1 .two-digits2 .ensures))
 
 returns-6 : tie.Need-returns-6
-unfolding plainMillisecond
 returns-6 c =
     let x1 = c .before in
     let x2 = x1 .before .before .before in
@@ -95,7 +131,8 @@ returns-6 c =
     let x4 = x3 .before .before in
     let x5 = x4 .before .before in
     let x6 = x5 .before in
-    simp (le-ltb _ _ (x6 .if1 .left), le-ltb _ _ (x5 .if2 .left), eq-eqb _ _ (x4 .if3 .left), rw (x3 .two-digits .ensures) at (ne-eqb _ _ (x2 .if4 .left)), rw (x1 .two-digits2 .ensures) at (ne-eqb _ _ (c .if5 .left)), x3 .two-digits .ensures, x1 .two-digits2 .ensures)
+    let a = x6 .before .before .args in
+    all-there (a .s .now) (a .at) (le-ltb _ _ (x6 .if1 .left)) (le-ltb _ _ (x5 .if2 .left)) (eq-eqb _ _ (x4 .if3 .left)) (x3 .two-digits .ensures) (ne-eqb _ _ (x2 .if4 .left)) (x1 .two-digits2 .ensures) (ne-eqb _ _ (c .if5 .left))
 
 pub plain-millisecond-spec : {M : Type 1} → statement M
 plain-millisecond-spec =
