@@ -1,6 +1,6 @@
 -- The laws of offsets: what other kinds cite, and the verdict.
 use Prim.Native.Nat.{ℕ, _≤_}
-use mathlib.Core.List.{List}
+use mathlib.Core.List.{List, [], _∷_}
 use mathlib.Core.Bool.{Bool, true, false, not}
 use mathlib.Core.Path.{_≡_, refl, sym, _∙_}
 use native.Mathlib.Omega.{arith}
@@ -9,15 +9,15 @@ use lib.Dec.{ltb, eqb}
 use borrow.Author.Tests.{eqb-true, ne-eqb}
 use Rattle.types.specs.Sums.{zeroOffset}
 use Rattle.parser.specs.Reading.{Found, no, got, stop, Says, lit, seq, after, alt, map, or, and}
-use Rattle.parser.specs.Digits.{reach, highest, lowest}
 use Rattle.parser.specs.Fields.{hour, signed}
 use Rattle.parser.proofs.Fields.{true≢false, and-right}
-use Rattle.parser.proofs.Stable.{Stable, lit-stable, seq-stable, opt-stable, alt-stable, verify-stable, map-stable, field-stable}
-use Rattle.parser.proofs.Places.{no≢got, Bounded, Fails, Skips, lit-bounded, seq-bounded, opt-bounded, alt-bounded, verify-bounded, map-bounded, field-bounded, lit-fails, seq-fails, alt-fails, map-fails, opt-skips, verify-skips, map-skips}
-use Rattle.parser.proofs.Leaves.{From, above-zero, signed-stable, signed-bounded, signed-fails, signed-at-end, signed-starts, field-hopeful-in, field-starts, lit-hopeful}
-use Rattle.parser.proofs.Preceded.{preceded-stable, preceded-bounded, preceded-hopeful, preceded-fails}
+use Rattle.parser.proofs.Stable.{Stable}
+use Rattle.parser.proofs.Places.{no≢got, Bounded, Fails, lit-fails}
+use Rattle.parser.proofs.Hopeful.{Anything, Hopeful}
+use Rattle.parser.proofs.Leaves.{From, above-zero, signed-at-end}
 use Rattle.parser.proofs.Says.{says-alt-no, says-map}
-use Rattle.parser.proofs.Hopeful.{Anything, AnyByte, Hopeful, Starts, at-end-definite, definite-keeps, map-hopeful, verify-hopeful, opt-hopeful, alt-hopeful, seq-hopeful, starts-hopeful, hopeful-weaken, starts-weaken, ends-then-skips, ends-then-starts}
+use Rattle.parser.proofs.Lawful.{byte, TailIf, tail-where, map-tail, verify-tail, Item, map-item, alt-item, opt-tail-if, seq-item}
+use Rattle.parser.proofs.Items.{lit-mark, signed-mark, after-item, preceded-item, field-item-in}
 use Rattle.offset.specs.Rules.{allowed, offsetMinute, offsetHour, offsetZulu, offset}
 use Rattle.parser.specs.Fields.{orZero}
 
@@ -54,37 +54,7 @@ no-zulu s at h =
     let z : Says (lit 90) s at no (lit 90 .more s at) = record { found = sym (hour-no-zulu s at (sym (h .more))); more = refl } in
     says-alt-no offsetHour s at offsetZulu true no (lit 90 .more s at) h (says-map (lit 90) s at (λ _. zeroOffset) no (lit 90 .more s at) z)
 
--- ---- stable, bounded, failing at the end, foreign
-
-minute-stable : (minus : Bool) (h : ℕ) → Stable (offsetMinute minus h)
-unfolding offsetMinute
-minute-stable minus h = map-stable _ _ (verify-stable _ _ (opt-stable _ (preceded-stable 58 2 0 59)))
-
-minute-bounded : (minus : Bool) (h : ℕ) → Bounded (offsetMinute minus h)
-unfolding offsetMinute
-minute-bounded minus h = map-bounded _ _ (verify-bounded _ _ (opt-bounded _ (preceded-bounded 58 2 0 59)))
-
-hour-stable : Stable offsetHour
-unfolding offsetHour
-hour-stable = seq-stable signed (λ minus. seq hour (offsetMinute minus)) signed-stable (λ minus. seq-stable hour (offsetMinute minus) (field-stable 2 0 23) (minute-stable minus))
-
-hour-bounded : Bounded offsetHour
-unfolding offsetHour
-hour-bounded = seq-bounded signed (λ minus. seq hour (offsetMinute minus)) signed-bounded (λ minus. seq-bounded hour (offsetMinute minus) (field-bounded 2 0 23) (minute-bounded minus))
-
-pub offset-stable : Stable offset
-unfolding offset offsetZulu
-offset-stable = alt-stable offsetHour offsetZulu hour-stable (map-stable _ _ (lit-stable 90))
-
-pub offset-bounded : Bounded offset
-unfolding offset offsetZulu
-offset-bounded = alt-bounded offsetHour offsetZulu hour-bounded (map-bounded _ _ (lit-bounded 90))
-
-pub offset-fails : Fails offset
-unfolding offset offsetHour offsetZulu
-offset-fails = alt-fails offsetHour offsetZulu (seq-fails signed (λ minus. seq hour (offsetMinute minus)) signed-fails) (map-fails _ _ (lit-fails 90))
-
--- ---- hope: an hour or a minute can be completed above 0, so that a minus is allowed
+-- ---- an hour or a minute can be completed above 0, so that a minus is allowed
 
 allowed-minute : (minus : Bool) (h m : ℕ) → 1 ≤ m → allowed minus h m ≡ true
 allowed-minute minus h m le = rw (ne-eqb m 0 (λ e. omega arith)) (nothing minus (eqb h 0))
@@ -101,39 +71,37 @@ allowed-hour minus h m le = rw (ne-eqb h 0 (λ e. omega arith)) (nothing minus)
     nothing true = refl
     nothing false = refl
 
-minute-hopeful : (minus : Bool) (h : ℕ) → Hopeful 2 Anything (offsetMinute minus h)
-unfolding offsetMinute reach highest lowest
-minute-hopeful minus h =
-    map-hopeful Anything _ _ (λ a f. tt)
-    (verify-hopeful _ _ (λ a f. f)
-    (opt-hopeful (λ o. allowed minus h (orZero o) ≡ true) _ (λ m f. allowed-minute minus h m (f .0))
-    (preceded-hopeful 58 1 0 59 1 59 refl (omega arith) (omega arith) (omega arith) refl (above-zero 59 (omega arith)))))
+-- ---- the laws of each part
 
-minute-skips : (minus : Bool) (h : ℕ) → From 1 23 h → Skips Anything (offsetMinute minus h)
+-- what an offset takes beside digits: `+`, `-`, `:` and `Z`
+abbrev pub bytes : List ℕ
+bytes = 43 ∷ 45 ∷ 58 ∷ 90 ∷ []
+
+-- the minute may be absent behind an hour that is not 0
+minute-tail : (minus : Bool) (h : ℕ) → TailIf (From 1 23 h) bytes 2 Anything (offsetMinute minus h)
 unfolding offsetMinute
-minute-skips minus h f =
-    map-skips (λ o. allowed minus h (orZero o) ≡ true) Anything _ _ (λ a f. tt)
-    (verify-skips (λ o. allowed minus h (orZero o) ≡ true) _ _ (λ a f. f)
-    (opt-skips (λ o. allowed minus h (orZero o) ≡ true) _ (allowed-hour minus h 0 (f .0)) (preceded-fails 58 2 0 59 (omega arith))))
+minute-tail minus h =
+    map-tail _ (verify-tail _ (λ o a. a) (tail-where (λ f. allowed-hour minus h 0 (f .0))
+    (opt-tail-if {C = λ o. allowed minus h (orZero o) ≡ true} (λ m f. allowed-minute minus h m (f .0))
+    (preceded-item 58 refl refl (field-item-in 2 0 59 1 59 refl (above-zero 59 (omega arith)))))))
 
-unsigned-hopeful : (minus : Bool) → Hopeful 2 Anything (seq hour (offsetMinute minus))
-unsigned-hopeful minus =
-    seq-hopeful hour (offsetMinute minus) (field-stable 2 0 23) (field-bounded 2 0 23)
-    (λ s at le h. ends-then-skips Anything hour (offsetMinute minus) (minute-skips minus) (field-hopeful-in 2 0 23 1 23 (omega arith) (omega arith) (omega arith) (above-zero 23 (omega arith)) s at le h))
-    (minute-hopeful minus)
-
-unsigned-starts : (minus : Bool) → Starts 2 AnyByte Anything (seq hour (offsetMinute minus))
-unfolding reach highest lowest
-unsigned-starts minus = starts-weaken (seq hour (offsetMinute minus)) (λ s. ends-then-skips Anything hour (offsetMinute minus) (minute-skips minus) (field-starts 1 0 23 1 23 (omega arith) (omega arith) (omega arith) refl s))
-
-hour-hopeful : Hopeful 3 Anything offsetHour
+hour-item : Item bytes (byte 45) 3 3 Anything offsetHour
 unfolding offsetHour
-hour-hopeful =
-    seq-hopeful signed (λ minus. seq hour (offsetMinute minus)) signed-stable signed-bounded
-    (λ s at le h. ends-then-starts 1 2 AnyByte Anything signed (λ minus. seq hour (offsetMinute minus)) le (definite-keeps signed signed-stable (at-end-definite signed signed-at-end signed-fails)) (λ minus f. unsigned-starts minus) (starts-hopeful signed signed-at-end signed-starts s at le h))
-    (λ minus. hopeful-weaken 3 Anything (seq hour (offsetMinute minus)) (omega arith) (λ a f. f) (unsigned-hopeful minus))
+hour-item = after-item (signed-mark refl refl) (λ minus. seq-item (field-item-in 2 0 23 1 23 refl (above-zero 23 (omega arith))) (minute-tail minus))
+
+pub offset-item : Item bytes (byte 45) 3 3 Anything offset
+unfolding offset offsetZulu
+offset-item = alt-item hour-item (map-item _ (lit-mark 90 refl .item))
+
+pub offset-stable : Stable offset
+offset-stable = offset-item .lawful .stable
+
+pub offset-bounded : Bounded offset
+offset-bounded = offset-item .lawful .bounded
+
+pub offset-fails : Fails offset
+offset-fails = offset-item .fails
 
 -- an open offset has a continuation of at most three bytes that changes the answer
 pub offset-hopeful : Hopeful 3 Anything offset
-unfolding offset offsetZulu
-offset-hopeful = alt-hopeful offsetHour offsetZulu hour-stable hour-hopeful (map-hopeful Anything _ _ (λ a f. tt) (hopeful-weaken 3 Anything (lit 90) (omega arith) (λ a f. f) (lit-hopeful Anything 90 tt)))
+offset-hopeful = offset-item .lawful .hopeful

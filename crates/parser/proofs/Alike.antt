@@ -4,7 +4,7 @@ use mathlib.Core.List.{List, _∷_, _++_}
 use mathlib.Core.Bool.{Bool, true, false}
 use mathlib.Core.Path.{_≡_, refl, sym, _∙_}
 use Rattle.parser.specs.Reading.{Found, no, got, stop, Reader, seq, alt, failed, or, and, Says}
-use Rattle.parser.proofs.Hopeful.{Hopeful}
+use Rattle.parser.proofs.Hopeful.{Ends, Hopeful}
 
 pub record AlikeAt {A : Type 0} (p q : Reader A) (s : List ℕ) (at : ℕ) : Type 0 where
   pub reads : p .reads s at ≡ q .reads s at
@@ -41,7 +41,8 @@ common-beginning {A} {B} p f g q e s at = go (p .reads s at) refl
 pub alike-says : {A : Type 0} (p q : Reader A) → Alike p q → (s : List ℕ) (at : ℕ) (f : Found A) (m : Bool) → Says q s at f m → Says p s at f m
 alike-says p q e s at f m h = record { found = h .found ∙ sym (e s at .reads); more = h .more ∙ sym (e s at .more) }
 
+pub alike-ends : {A : Type 0} {k : ℕ} {X : ℕ → Type 0} {F : A → Type 0} (p q : Reader A) {s : List ℕ} {at : ℕ} → Alike p q → Ends k X F q s at → Ends k X F p s at
+alike-ends p q {s} {at} e x = record { first = x .first; rest = x .rest; value = x .value; begins = x .begins; few = x .few; fact = x .fact; reads = e (s ++ x .first ∷ x .rest) at .reads ∙ x .reads }
+
 pub alike-hopeful : {A : Type 0} {k : ℕ} {F : A → Type 0} (p q : Reader A) → Alike p q → Hopeful k F q → Hopeful k F p
-alike-hopeful p q e hq s at le h =
-    let x = hq s at le (sym (e s at .more) ∙ h) in
-    record { first = x .first; rest = x .rest; value = x .value; begins = x .begins; few = x .few; fact = x .fact; reads = e (s ++ x .first ∷ x .rest) at .reads ∙ x .reads }
+alike-hopeful p q e hq s at le h = alike-ends p q e (hq s at le (sym (e s at .more) ∙ h))

@@ -38,6 +38,10 @@ pub map-eager : {A B : Type 0} (f : A → B) (p : Reader A) → Eager p → Eage
 unfolding map
 map-eager f p ep s at h = ep s at h
 
+pub alt-eager : {A : Type 0} (p q : Reader A) → Eager p → Eager (alt p q)
+unfolding alt
+alt-eager p q ep s at h = rw (ep s at h)
+
 -- ---- the same reading from two places
 
 pub record SameFrom {A : Type 0} (p q : Reader A) (s : List ℕ) (at from : ℕ) : Type 0 where

@@ -10,3 +10,5 @@ pub mod Verdict
 pub mod Alike
 pub mod Says
 pub mod General
+pub mod Lawful
+pub mod Items

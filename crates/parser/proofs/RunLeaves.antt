@@ -15,7 +15,9 @@ use Rattle.parser.proofs.Fields.{and-first, and-second}
 use Rattle.parser.proofs.Runs.{run-end, digits-short}
 use Rattle.parser.proofs.Stable.{run-stable}
 use Rattle.parser.proofs.Places.{run-bounded, run-foreign}
-use Rattle.parser.proofs.Hopeful.{Ends, AnyByte, Anything, Hopeful, Starts, Keeps, foreign-keeps, ends-after, ends-then-starts, seq-hopeful, ends-weaken}
+use Rattle.parser.proofs.Hopeful.{Ends, AnyByte, Anything, Hopeful, Starts, Keeps, foreign-keeps, ends-after, ends-then-starts, ends-weaken, seq-hopeful}
+use Rattle.parser.proofs.Leaves.{DigitByte}
+use Rattle.parser.proofs.General.{Eager}
 
 run-reaches : (s : List ℕ) (at : ℕ) → at ≤ length s → atTheEnd s at ≡ true → at + length (runAt s at) ≡ length s
 run-reaches s at le h = omega (arith, digits-short (drop at s), length-drop at s, ltb-false (at + length (runAt s at)) (length s) (not-true (ltb (at + length (runAt s at)) (length s)) h))
@@ -38,34 +40,48 @@ of-run : {A : Type 0} (d : List ℕ) (a b : A) → 0 < length d → ofRun d a b 
 of-run [] a b h = absurd (omega arith)
 of-run (c ∷ d) a b h = refl
 
-pub fraction-hopeful : Hopeful 1 Anything fraction
+-- a zero more is read by a fraction that stands open
+fraction-ends : (s : List ℕ) (at : ℕ) → at ≤ length s → atTheEnd s at ≡ true → Ends 1 DigitByte Anything fraction s at
 unfolding fraction
-fraction-hopeful s at le h =
+fraction-ends s at le h =
     let e = zero-more s at le h in
     let size : at + length (drop at s ++ 48 ∷ []) ≡ length (s ++ 48 ∷ []) = omega (arith, length-append (drop at s) (48 ∷ []), length-drop at s, length-append s (48 ∷ [])) in
     record {
       first = 48;
       rest = [];
       value = nanoseconds (drop at s ++ 48 ∷ []);
-      begins = tt;
+      begins = refl;
       few = omega arith;
       fact = tt;
       reads = rw (e, of-run (drop at s ++ 48 ∷ []) no (got (nanoseconds (drop at s ++ 48 ∷ [])) (at + length (drop at s ++ 48 ∷ []))) (omega (arith, length-append (drop at s) (48 ∷ []))), size);
     }
 
-pub fraction-starts : Starts 1 AnyByte Anything fraction
-unfolding fraction
-fraction-starts s = fraction-hopeful s (length s) (omega arith) (rw (run-end s (length s) (omega arith), le-ltb (length s + 0) (length s) (omega arith)))
+end-open : (s : List ℕ) (at : ℕ) → length s ≤ at → atTheEnd s at ≡ true
+end-open s at h = rw (run-end s at h, le-ltb (at + 0) (length s) (omega arith))
 
-pub run-starts : Starts 1 AnyByte Anything run
+pub fraction-eager : Eager fraction
+unfolding fraction
+fraction-eager s at h = end-open s at h
+
+pub fraction-hopeful : Hopeful 1 Anything fraction
+unfolding fraction
+fraction-hopeful s at le h = ends-weaken 1 AnyByte Anything (omega arith) (λ c x. tt) (λ a f. f) (fraction-ends s at le h)
+
+pub fraction-starts : Starts 1 DigitByte Anything fraction
+fraction-starts s = fraction-ends s (length s) (omega arith) (end-open s (length s) (omega arith))
+
+pub run-eager : Eager run
+unfolding run numberFrom
+run-eager s at h = rw (end-open s at h, run-end s at h)
+
+run-starts : Starts 1 DigitByte Anything run
 unfolding run numberFrom
 run-starts s =
-    let at-end : atTheEnd s (length s) ≡ true = rw (run-end s (length s) (omega arith), le-ltb (length s + 0) (length s) (omega arith)) in
-    let e : runAt (s ++ 48 ∷ []) (length s) ≡ 48 ∷ [] = zero-more s (length s) (omega arith) at-end ∙ rw (drop-length s) in
-    record { first = 48; rest = []; value = 0; begins = tt; few = omega arith; fact = tt; reads = rw (e, length-append s (48 ∷ [])) }
+    let e : runAt (s ++ 48 ∷ []) (length s) ≡ 48 ∷ [] = zero-more s (length s) (omega arith) (end-open s (length s) (omega arith)) ∙ rw (drop-length s) in
+    record { first = 48; rest = []; value = 0; begins = refl; few = omega arith; fact = tt; reads = rw (e, length-append s (48 ∷ [])) }
 
 -- a run that stands open at the end has no digit yet, or has a value there
-pub run-open : (s : List ℕ) (at : ℕ) → at ≤ length s → run .more s at ≡ true → (length s ≡ at) ⊎ ((v : ℕ) × (run .reads s at ≡ got v (length s)))
+run-open : (s : List ℕ) (at : ℕ) → at ≤ length s → run .more s at ≡ true → (length s ≡ at) ⊎ ((v : ℕ) × (run .reads s at ≡ got v (length s)))
 unfolding run
 run-open s at le h = go (runAt s at) (run-reaches s at le (and-first (atTheEnd s at) (leb (number (runAt s at)) limit) h)) (and-second (atTheEnd s at) h)
   where
@@ -73,16 +89,20 @@ run-open s at le h = go (runAt s at) (run-reaches s at le (and-first (atTheEnd s
     go [] e h = inl (omega arith)
     go (b ∷ d) e h = inr (number (b ∷ d), rw (h, e))
 
--- a run and its letter
-pub run-then-hopeful : {B : Type 0} {k : ℕ} {F : B → Type 0} (X : ℕ → Type 0) (q : ℕ → Reader B) → ((c : ℕ) → X c → isDigit c ≡ false) → ((v : ℕ) → Starts k X F (q v)) → ((v : ℕ) → Hopeful (1 + k) F (q v)) → Hopeful (1 + k) F (seq run q)
-run-then-hopeful {B} {k} {F} X q nd sq hq = seq-hopeful run q run-stable run-bounded ends hq
-  where
-    keeps : Keeps X run
-    keeps = foreign-keeps X run (run-foreign X nd)
+-- a run that stands open ends with what follows it, a byte that is no digit first; a zero is wanted where it has no digit yet
+module _ {B : Type 0} {k : ℕ} {F : B → Type 0} (X : ℕ → Type 0) (q : ℕ → Reader B) (nd : (c : ℕ) → X c → isDigit c ≡ false) (sq : (v : ℕ) → Starts k X F (q v)) where
+  keeps : Keeps X run
+  keeps = foreign-keeps X run (run-foreign X nd)
 
-    ends : (s : List ℕ) (at : ℕ) → at ≤ length s → run .more s at ≡ true → Ends (1 + k) AnyByte F (seq run q) s at
-    ends s at le h = go (run-open s at le h)
-      where
-        go : (length s ≡ at) ⊎ ((v : ℕ) × (run .reads s at ≡ got v (length s))) → Ends (1 + k) AnyByte F (seq run q) s at
-        go (inl here) = rw (← here) (ends-then-starts 1 k X F run q (omega arith) keeps (λ v _. sq v) (run-starts s))
-        go (inr (v, e)) = ends-weaken (1 + k) AnyByte F (omega arith) (λ c x. tt) (λ b f. f) (ends-after run q s at le keeps v e (sq v))
+  pub run-then-starts : Starts (1 + k) DigitByte F (seq run q)
+  run-then-starts s = ends-then-starts 1 k X F run q (omega arith) keeps (λ v _. sq v) (run-starts s)
+
+  pub run-then-ends : (s : List ℕ) (at : ℕ) → at ≤ length s → run .more s at ≡ true → Ends (1 + k) AnyByte F (seq run q) s at
+  run-then-ends s at le h = go (run-open s at le h)
+    where
+      go : (length s ≡ at) ⊎ ((v : ℕ) × (run .reads s at ≡ got v (length s))) → Ends (1 + k) AnyByte F (seq run q) s at
+      go (inl here) = rw (← here) (ends-weaken (1 + k) AnyByte F (omega arith) (λ c x. tt) (λ b f. f) (run-then-starts s))
+      go (inr (v, e)) = ends-weaken (1 + k) AnyByte F (omega arith) (λ c x. tt) (λ b f. f) (ends-after run q s at le keeps v e (sq v))
+
+  pub run-then-hopeful : ((v : ℕ) → Hopeful (1 + k) F (q v)) → Hopeful (1 + k) F (seq run q)
+  run-then-hopeful hq = seq-hopeful run q run-stable run-bounded run-then-ends hq

@@ -1,0 +1,155 @@
+-- The items that rules are made of: single bytes, fields, runs and the fraction.
+use Prim.Native.Nat.{ℕ, zero, suc, _+_, _*_, _≤_}
+use mathlib.Core.List.{List}
+use mathlib.Core.Bool.{Bool, true, false}
+use mathlib.Core.Option.{Option, none}
+use mathlib.Core.Path.{_≡_, refl, sym, _∙_}
+use native.Mathlib.Omega.{arith}
+use lib.ListN.{length}
+use lib.Dec.{ltb, leb}
+use borrow.Author.Tests.{leb-true, le-leb, eq-eqb}
+use Rattle.parser.specs.Reading.{Reader, lit, seq, opt, alt, map, and}
+use Rattle.parser.specs.Digits.{isDigit, field, lowest, highest, reach, run, fraction}
+use Rattle.parser.specs.Fields.{signed, either, precededBy}
+use Rattle.parser.proofs.Fields.{true≢false, and-first, and-second}
+use Rattle.parser.proofs.Stable.{lit-stable, opt-stable, field-stable, fraction-stable, run-stable}
+use Rattle.parser.proofs.Places.{Foreign, lit-bounded, opt-bounded, field-bounded, run-bounded, fraction-bounded, lit-fails, field-fails, run-fails, fraction-fails, seq-fails, lit-foreign, opt-foreign, run-foreign, fraction-foreign, field-foreign}
+use Rattle.parser.proofs.Hopeful.{Ends, AnyByte, Anything, Starts, Keeps, AtEnd, at-end-definite, ends-weaken, starts-weaken, left-out-starts}
+use Rattle.parser.proofs.Leaves.{From, Narrows, lit-starts, lit-at-end, lit-hopeful, map-at-end, alt-at-end, signed-foreign, field-hopeful-in, field-starts, field-definite}
+use Rattle.parser.proofs.RunLeaves.{fraction-eager, fraction-hopeful, fraction-starts, run-eager, run-then-starts, run-then-ends}
+use Rattle.parser.proofs.General.{lit-eager, seq-eager, field-eager, definite-keeps-any}
+use Rattle.parser.proofs.Lawful.{most, In, byte, member, Outside, told-apart, outside-digit, outside-other, seq-lawful, Item, forget, map-item, alt-item, then-item}
+
+-- ---- single bytes: items that are open at the end of the input alone
+
+pub record Mark {A : Type 0} (l : List ℕ) (c : ℕ) (p : Reader A) : Type 0 where
+  pub item : Item l (byte c) 1 1 Anything p
+  pub at-end : AtEnd p
+
+pub lit-mark : {l : List ℕ} (c : ℕ) → member l c ≡ true → Mark l c (lit c)
+lit-mark {l} c h = record {
+  item = record {
+    lawful = record { stable = lit-stable c; bounded = lit-bounded c; foreign = lit-foreign (Outside l) c (outside-other l c h); hopeful = lit-hopeful Anything c tt };
+    fails = lit-fails c;
+    eager = lit-eager c;
+    starts = λ s. ends-weaken 1 (In (byte c)) Anything (omega arith) (λ b e. eq-eqb b c e) (λ a f. f) (lit-starts Anything c tt s);
+  };
+  at-end = lit-at-end c;
+}
+
+map-mark : {A B : Type 0} {l : List ℕ} {c : ℕ} (f : A → B) {p : Reader A} → Mark l c p → Mark l c (map f p)
+map-mark f {p} hp = record { item = map-item f (hp .item); at-end = map-at-end f p (hp .at-end) }
+
+alt-mark : {A : Type 0} {l : List ℕ} {c d : ℕ} {p q : Reader A} → Mark l c p → Mark l d q → Mark l c (alt p q)
+alt-mark {p = p} {q = q} hp hq = record { item = alt-item (hp .item) (hq .item); at-end = alt-at-end p q (hp .at-end) (hq .at-end) }
+
+pub either-mark : {l : List ℕ} (c d : ℕ) → member l c ≡ true → member l d ≡ true → Mark l c (either c d)
+either-mark c d h g = alt-mark (lit-mark c h) (lit-mark d g)
+
+pub signed-mark : {l : List ℕ} → member l 45 ≡ true → member l 43 ≡ true → Mark l 45 signed
+signed-mark h g = alt-mark (map-mark (λ _. true) (lit-mark 45 h)) (map-mark (λ _. false) (lit-mark 43 g))
+
+-- a byte and what must follow it
+pub after-item : {A B : Type 0} {l : List ℕ} {c : ℕ} {Z : ℕ → Bool} {k n : ℕ} {F : B → Type 0} {p : Reader A} {q : A → Reader B} → Mark l c p → ((a : A) → Item l Z k n F (q a)) → Item l (byte c) (1 + k) (most (1 + k) n) F (seq p q)
+after-item {Z = Z} {p = p} hp hq = then-item (definite-keeps-any (In Z) p (hp .item .lawful .stable) (at-end-definite p (hp .at-end) (hp .item .fails))) (hp .item) hq
+
+-- an optional byte in front is left out where the input ends, if what follows starts with another
+pub left-out-item : {A B : Type 0} {l : List ℕ} {c : ℕ} {Z : ℕ → Bool} {k n : ℕ} {F : B → Type 0} {p : Reader A} {q : Option A → Reader B} → Mark l c p → Foreign (In Z) p → ((o : Option A) → Item l Z k n F (q o)) → Item l Z k (most k n) F (seq (opt p) q)
+unfolding opt seq
+left-out-item {l = l} {Z = Z} {k = k} {F = F} {p = p} {q = q} hp other hq = record {
+  lawful = seq-lawful (opt-stable p (hp .item .lawful .stable)) (opt-bounded p (hp .item .lawful .bounded)) (opt-foreign (Outside l) p (hp .item .lawful .foreign)) ends (λ o. hq o .lawful);
+  fails = λ s at e. rw (hp .item .fails s at e) (hq none .fails s at e);
+  eager = λ s at e. rw (hp .item .eager s at e);
+  starts = begun;
+}
+  where
+    begun : Starts k (In Z) F (seq (opt p) q)
+    begun = left-out-starts (In Z) p q (hp .item .fails) other (hq none .starts)
+
+    ends : (s : List ℕ) (at : ℕ) → at ≤ length s → p .more s at ≡ true → Ends k AnyByte F (seq (opt p) q) s at
+    ends s at le e =
+        let here : length s ≡ at = omega (arith, hp .at-end s at e) in
+        rw (← here) (starts-weaken (seq (opt p) q) begun s)
+
+pub preceded-item : {A : Type 0} {l : List ℕ} (c : ℕ) {Z : ℕ → Bool} {k n : ℕ} {F : A → Type 0} {p : Reader A} → member l c ≡ true → Z c ≡ false → Item l Z k n F p → Item l Z k (most k n) F (precededBy c p)
+preceded-item c {Z} h o hp = left-out-item (lit-mark c h) (lit-foreign (In Z) c (λ b i. told-apart Z b c (λ e. true≢false (sym i ∙ e ∙ o)))) (λ _. hp)
+
+-- ---- fields
+
+-- the greatest number that n more digits make of v
+abbrev pub nines : ℕ → ℕ → ℕ
+nines zero v = v
+nines (suc n) v = nines n (v * 10 + 9)
+
+-- some digits make a number from lo to hi
+abbrev pub fits : ℕ → ℕ → ℕ → Bool
+fits n lo hi = and (ltb 0 n) (and (leb lo hi) (leb lo (nines n 0)))
+
+nines-highest : (n v : ℕ) → nines n v ≡ highest n v
+unfolding highest
+nines-highest zero v = refl
+nines-highest (suc n) v = nines-highest n (v * 10 + 9)
+
+pub lowest-zero : (n : ℕ) → lowest n 0 ≡ 0
+unfolding lowest
+lowest-zero zero = refl
+lowest-zero (suc n) = lowest-zero n
+
+reached : (n lo hi : ℕ) → lo ≤ nines n 0 → reach lo hi n 0 ≡ true
+unfolding reach
+reached n lo hi h = rw (← nines-highest n 0, le-leb lo (nines n 0) h, lowest-zero n, le-leb 0 hi (omega arith))
+
+-- a field that is completed from lo′ to hi′
+pub field-item-in : {l : List ℕ} (n lo hi lo′ hi′ : ℕ) → and (leb lo lo′) (and (leb hi′ hi) (fits n lo′ hi′)) ≡ true → Narrows lo hi lo′ hi′ → Item l isDigit n n (From lo′ hi′) (field n lo hi)
+field-item-in zero lo hi lo′ hi′ h narrows = absurd (true≢false (sym (and-second (leb hi′ hi) (and-second (leb lo lo′) h))))
+field-item-in {l} (suc n) lo hi lo′ hi′ h narrows = record {
+  lawful = record {
+    stable = field-stable (suc n) lo hi;
+    bounded = field-bounded (suc n) lo hi;
+    foreign = field-foreign (Outside l) (suc n) lo hi (outside-digit l);
+    hopeful = field-hopeful-in (suc n) lo hi lo′ hi′ a b ab narrows;
+  };
+  fails = field-fails (suc n) lo hi (omega arith);
+  eager = field-eager (suc n) lo hi (omega arith) (reached (suc n) lo hi (omega (arith, a, c)));
+  starts = field-starts n lo hi lo′ hi′ a b ab (reached (suc n) lo′ hi′ c);
+}
+  where
+    inner : fits (suc n) lo′ hi′ ≡ true
+    inner = and-second (leb hi′ hi) (and-second (leb lo lo′) h)
+
+    a : lo ≤ lo′
+    a = leb-true lo lo′ (and-first (leb lo lo′) _ h)
+
+    b : hi′ ≤ hi
+    b = leb-true hi′ hi (and-first (leb hi′ hi) _ (and-second (leb lo lo′) h))
+
+    ab : lo′ ≤ hi′
+    ab = leb-true lo′ hi′ (and-first (leb lo′ hi′) _ (and-second (ltb 0 (suc n)) inner))
+
+    c : lo′ ≤ nines (suc n) 0
+    c = leb-true lo′ (nines (suc n) 0) (and-second (leb lo′ hi′) (and-second (ltb 0 (suc n)) inner))
+
+pub field-item : {l : List ℕ} (n lo hi : ℕ) → fits n lo hi ≡ true → Item l isDigit n n Anything (field n lo hi)
+field-item n lo hi h = forget (field-item-in n lo hi lo hi (rw (le-leb lo lo (omega arith), le-leb hi hi (omega arith)) h) (λ n v r. r))
+
+pub field-keeps : (n lo hi : ℕ) → Keeps (In isDigit) (field n lo hi)
+field-keeps n lo hi = definite-keeps-any (In isDigit) (field n lo hi) (field-stable n lo hi) (field-definite n lo hi)
+
+-- ---- runs and the fraction
+
+pub fraction-item : {l : List ℕ} → Item l isDigit 1 1 Anything fraction
+fraction-item {l} = record {
+  lawful = record { stable = fraction-stable; bounded = fraction-bounded; foreign = fraction-foreign (Outside l) (outside-digit l); hopeful = fraction-hopeful };
+  fails = fraction-fails;
+  eager = fraction-eager;
+  starts = fraction-starts;
+}
+
+-- a run and what must follow it
+pub run-item : {B : Type 0} {l : List ℕ} {Z : ℕ → Bool} {k n : ℕ} {F : B → Type 0} {q : ℕ → Reader B} → ((c : ℕ) → In Z c → isDigit c ≡ false) → ((v : ℕ) → Item l Z k n F (q v)) → Item l isDigit (1 + k) (most (1 + k) n) F (seq run q)
+run-item {l = l} {Z = Z} {q = q} nd hq = record {
+  lawful = seq-lawful run-stable run-bounded (run-foreign (Outside l) (outside-digit l)) (run-then-ends (In Z) q nd (λ v. hq v .starts)) (λ v. hq v .lawful);
+  fails = seq-fails run q run-fails;
+  eager = seq-eager run q run-eager;
+  starts = run-then-starts (In Z) q nd (λ v. hq v .starts);
+}

@@ -1,0 +1,223 @@
+-- The laws of a part of a rule travel together: a record for what must be there, one for what may be absent, one law for each combinator.
+use Prim.Native.Nat.{ℕ, _+_, _≤_}
+use mathlib.Core.List.{List, [], _∷_, _++_}
+use mathlib.Core.Bool.{Bool, true, false}
+use mathlib.Core.Option.{Option, some, none}
+use mathlib.Core.Path.{_≡_, refl, sym, _∙_}
+use native.Mathlib.Omega.{arith}
+use lib.ListN.{length}
+use lib.Dec.{leb, eqb}
+use borrow.Author.Tests.{leb-true, leb-false, eqb-true}
+use Rattle.parser.specs.Reading.{Reader, seq, opt, alt, verify, map, give, or, and, pick}
+use Rattle.parser.specs.Digits.{isDigit}
+use Rattle.parser.proofs.Fields.{true≢false, and-first, and-second}
+use Rattle.parser.proofs.Stable.{Stable, or-false, give-stable, verify-stable, map-stable, opt-stable, seq-stable, alt-stable}
+use Rattle.parser.proofs.Places.{Bounded, give-bounded, seq-bounded, opt-bounded, alt-bounded, verify-bounded, map-bounded}
+use Rattle.parser.proofs.Places.{Fails, Skips, seq-fails, alt-fails, map-fails, opt-skips, give-skips, seq-skips, map-skips, verify-skips}
+use Rattle.parser.proofs.Places.{Foreign, give-foreign, seq-foreign, opt-foreign, alt-foreign, verify-foreign, map-foreign}
+use Rattle.parser.proofs.Hopeful.{Ends, AnyByte, Anything, Hopeful, Starts, Keeps, foreign-keeps, ends-weaken, hopeful-weaken, ends-map, ends-verify, ends-opt, ends-alt, ends-then-skips, ends-then-starts, map-hopeful, verify-hopeful, opt-hopeful, give-hopeful, alt-hopeful, seq-hopeful}
+use Rattle.parser.proofs.Alike.{Alike, alike-ends, alike-hopeful}
+use Rattle.parser.proofs.General.{Eager, seq-eager, map-eager, alt-eager}
+
+-- ---- bounds and bytes are computed, so that a use shows what it has to by `refl`
+
+-- the greater of two bounds
+abbrev pub most : ℕ → ℕ → ℕ
+most j k = pick (leb j k) k j
+
+most-left : (j k : ℕ) → j ≤ most j k
+most-left j k = go (leb j k) refl
+  where
+    go : (t : Bool) → leb j k ≡ t → j ≤ pick t k j
+    go true e = leb-true j k e
+    go false e = omega arith
+
+most-right : (j k : ℕ) → k ≤ most j k
+most-right j k = go (leb j k) refl
+  where
+    go : (t : Bool) → leb j k ≡ t → k ≤ pick t k j
+    go true e = omega arith
+    go false e = omega (arith, leb-false j k e)
+
+abbrev pub In : (ℕ → Bool) → ℕ → Type 0
+In Y b = Y b ≡ true
+
+abbrev pub byte : ℕ → ℕ → Bool
+byte c b = eqb b c
+
+abbrev pub member : List ℕ → ℕ → Bool
+member [] b = false
+member (c ∷ l) b = or (eqb b c) (member l b)
+
+-- each byte of the first list is one of the second
+abbrev pub among : List ℕ → List ℕ → Bool
+among [] l = true
+among (c ∷ m) l = and (member l c) (among m l)
+
+-- neither a digit nor a byte of the list
+abbrev pub Outside : List ℕ → ℕ → Type 0
+Outside l b = or (isDigit b) (member l b) ≡ false
+
+-- bytes that a set tells apart
+pub told-apart : (Y : ℕ → Bool) (b c : ℕ) → (Y b ≡ Y c → ⊥) → eqb b c ≡ false
+told-apart Y b c h = go (eqb b c) refl
+  where
+    go : (t : Bool) → eqb b c ≡ t → eqb b c ≡ false
+    go true e = absurd (h (rw (eqb-true b c e)))
+    go false e = e
+
+pub outside-digit : (l : List ℕ) (b : ℕ) → Outside l b → isDigit b ≡ false
+outside-digit l b o = or-false (isDigit b) (member l b) o .0
+
+pub outside-other : (l : List ℕ) (c : ℕ) → member l c ≡ true → (b : ℕ) → Outside l b → eqb b c ≡ false
+outside-other l c h b o = told-apart (member l) b c (λ e. true≢false (sym h ∙ sym e ∙ or-false (isDigit b) (member l b) o .1))
+
+outside-fewer : (m l : List ℕ) → among m l ≡ true → (b : ℕ) → Outside l b → Outside m b
+outside-fewer [] l h b o = rw (outside-digit l b o)
+outside-fewer (c ∷ m) l h b o =
+    let r = outside-fewer m l (and-second (member l c) h) b o in
+    rw (outside-digit l b o, outside-other l c (and-first (member l c) (among m l) h) b o) (or-false (isDigit b) (member m b) r .1)
+
+-- ---- the laws of any part: it takes digits and bytes of l alone; where it is open, at most k bytes complete it, with a fact F
+
+pub record Lawful {A : Type 0} (l : List ℕ) (k : ℕ) (F : A → Type 0) (p : Reader A) : Type 0 where
+  pub stable : Stable p
+  pub bounded : Bounded p
+  pub foreign : Foreign (Outside l) p
+  pub hopeful : Hopeful k F p
+
+weaken-lawful : {A : Type 0} {m l : List ℕ} {k : ℕ} {E F : A → Type 0} {p : Reader A} → ((b : ℕ) → Outside l b → Outside m b) → ((a : A) → E a → F a) → Lawful m k E p → Lawful l k F p
+weaken-lawful {k = k} {F = F} {p = p} h g hp = record { stable = hp .stable; bounded = hp .bounded; foreign = λ s c y at o. hp .foreign s c y at (h c o); hopeful = hopeful-weaken k F p (omega arith) g (hp .hopeful) }
+
+map-lawful : {A B : Type 0} {l : List ℕ} {k : ℕ} {E : A → Type 0} (f : A → B) {p : Reader A} → Lawful l k E p → Lawful l k Anything (map f p)
+map-lawful {A} {B} {l} f {p} hp = record { stable = map-stable f p (hp .stable); bounded = map-bounded f p (hp .bounded); foreign = map-foreign (Outside l) f p (hp .foreign); hopeful = map-hopeful Anything f p (λ a e. tt) (hp .hopeful) }
+
+verify-lawful : {A : Type 0} {l : List ℕ} {k : ℕ} {F : A → Type 0} (f : A → Bool) {p : Reader A} → ((a : A) → F a → f a ≡ true) → Lawful l k F p → Lawful l k F (verify f p)
+verify-lawful {A} {l} f {p} g hp = record { stable = verify-stable f p (hp .stable); bounded = verify-bounded f p (hp .bounded); foreign = verify-foreign (Outside l) f p (hp .foreign); hopeful = verify-hopeful f p g (hp .hopeful) }
+
+opt-lawful : {A : Type 0} {l : List ℕ} {k : ℕ} {E : A → Type 0} {F : Option A → Type 0} {p : Reader A} → ((a : A) → E a → F (some a)) → Lawful l k E p → Lawful l k F (opt p)
+opt-lawful {A} {l} {k} {E} {F} {p} g hp = record { stable = opt-stable p (hp .stable); bounded = opt-bounded p (hp .bounded); foreign = opt-foreign (Outside l) p (hp .foreign); hopeful = opt-hopeful F p g (hp .hopeful) }
+
+alt-lawful : {A : Type 0} {l : List ℕ} {j k : ℕ} {F : A → Type 0} {p q : Reader A} → Lawful l j F p → Lawful l k F q → Lawful l (most j k) F (alt p q)
+alt-lawful {A} {l} {j} {k} {F} {p} {q} hp hq = record {
+  stable = alt-stable p q (hp .stable) (hq .stable);
+  bounded = alt-bounded p q (hp .bounded) (hq .bounded);
+  foreign = alt-foreign (Outside l) p q (hp .foreign) (hq .foreign);
+  hopeful = alt-hopeful p q (hp .stable) (hopeful-weaken (most j k) F p (most-left j k) (λ a f. f) (hp .hopeful)) (hopeful-weaken (most j k) F q (most-right j k) (λ a f. f) (hq .hopeful));
+}
+
+-- how a sequence ends where its first part is open, and the laws of what follows
+pub seq-lawful : {A B : Type 0} {l : List ℕ} {j k : ℕ} {F : B → Type 0} {p : Reader A} {q : A → Reader B} → Stable p → Bounded p → Foreign (Outside l) p → ((s : List ℕ) (at : ℕ) → at ≤ length s → p .more s at ≡ true → Ends j AnyByte F (seq p q) s at) → ((a : A) → Lawful l k F (q a)) → Lawful l (most j k) F (seq p q)
+seq-lawful {A} {B} {l} {j} {k} {F} {p} {q} sp bp fp ends hq = record {
+  stable = seq-stable p q sp (λ a. hq a .stable);
+  bounded = seq-bounded p q bp (λ a. hq a .bounded);
+  foreign = seq-foreign (Outside l) p q bp fp (λ a. hq a .foreign);
+  hopeful = seq-hopeful p q sp bp (λ s at le h. ends-weaken (most j k) AnyByte F (most-left j k) (λ c x. x) (λ b f. f) (ends s at le h)) (λ a. hopeful-weaken (most j k) F (q a) (most-right j k) (λ b f. f) (hq a .hopeful));
+}
+
+-- ---- what may be absent: past the end it takes nothing, where C holds, and its value has the fact
+
+pub record TailIf {A : Type 0} (C : Type 0) (l : List ℕ) (k : ℕ) (F : A → Type 0) (p : Reader A) : Type 0 where
+  pub lawful : Lawful l k F p
+  pub skips : C → Skips F p
+
+abbrev pub Tail : {A : Type 0} → List ℕ → ℕ → Reader A → Type 0
+Tail l k p = TailIf Unit l k Anything p
+
+pub give-tail : {A : Type 0} {l : List ℕ} {F : A → Type 0} (a : A) → TailIf (F a) l 0 F (give a)
+give-tail {A} {l} {F} a = record {
+  lawful = record { stable = give-stable a; bounded = give-bounded a; foreign = give-foreign (Outside l) a; hopeful = give-hopeful a };
+  skips = give-skips F a;
+}
+
+pub tail-where : {A : Type 0} {C D : Type 0} {l : List ℕ} {k : ℕ} {F : A → Type 0} {p : Reader A} → (D → C) → TailIf C l k F p → TailIf D l k F p
+tail-where g hp = record { lawful = hp .lawful; skips = λ d. hp .skips (g d) }
+
+pub map-tail : {A B : Type 0} {C : Type 0} {l : List ℕ} {k : ℕ} {E : A → Type 0} (f : A → B) {p : Reader A} → TailIf C l k E p → TailIf C l k Anything (map f p)
+map-tail {E = E} f {p} hp = record { lawful = map-lawful f (hp .lawful); skips = λ c. map-skips E Anything f p (λ a e. tt) (hp .skips c) }
+
+pub verify-tail : {A : Type 0} {C : Type 0} {l : List ℕ} {k : ℕ} {F : A → Type 0} (f : A → Bool) {p : Reader A} → ((a : A) → F a → f a ≡ true) → TailIf C l k F p → TailIf C l k F (verify f p)
+verify-tail {F = F} f {p} g hp = record { lawful = verify-lawful f g (hp .lawful); skips = λ c. verify-skips F f p g (hp .skips c) }
+
+pub seq-tail : {A B : Type 0} {C : Type 0} {l : List ℕ} {j k : ℕ} {E : A → Type 0} {F : B → Type 0} {p : Reader A} {q : A → Reader B} → TailIf C l j E p → ((a : A) → TailIf (E a) l k F (q a)) → TailIf C l (most j k) F (seq p q)
+seq-tail {E = E} {F = F} {p = p} {q = q} hp hq = record {
+  lawful = seq-lawful (hp .lawful .stable) (hp .lawful .bounded) (hp .lawful .foreign) (λ s at le h. ends-then-skips F p q (λ a. hq a .skips) (hp .lawful .hopeful s at le h)) (λ a. hq a .lawful);
+  skips = λ c. seq-skips E F p q (hp .skips c) (λ a. hq a .skips);
+}
+
+-- ---- what must be there: past the end it finds nothing and is open, and at most j bytes, the first a byte of Y, are read whole
+
+pub record Item {A : Type 0} (l : List ℕ) (Y : ℕ → Bool) (j k : ℕ) (F : A → Type 0) (p : Reader A) : Type 0 where
+  pub lawful : Lawful l k F p
+  pub fails : Fails p
+  pub eager : Eager p
+  pub starts : Starts j (In Y) F p
+
+weaken : {A : Type 0} {m l : List ℕ} {Y : ℕ → Bool} {j k : ℕ} {E F : A → Type 0} {p : Reader A} → ((b : ℕ) → Outside l b → Outside m b) → ((a : A) → E a → F a) → Item m Y j k E p → Item l Y j k F p
+weaken {Y = Y} {j = j} {F = F} h g hp = record { lawful = weaken-lawful h g (hp .lawful); fails = hp .fails; eager = hp .eager; starts = λ s. ends-weaken j (In Y) F (omega arith) (λ c x. x) g (hp .starts s) }
+
+-- more bytes may be taken, and a fact be forgotten
+pub widen : {A : Type 0} {m l : List ℕ} {Y : ℕ → Bool} {j k : ℕ} {F : A → Type 0} {p : Reader A} → among m l ≡ true → Item m Y j k F p → Item l Y j k F p
+widen {m = m} {l = l} h = weaken (outside-fewer m l h) (λ a f. f)
+
+pub forget : {A : Type 0} {l : List ℕ} {Y : ℕ → Bool} {j k : ℕ} {F : A → Type 0} {p : Reader A} → Item l Y j k F p → Item l Y j k Anything p
+forget = weaken (λ b o. o) (λ a f. tt)
+
+pub map-item : {A B : Type 0} {l : List ℕ} {Y : ℕ → Bool} {j k : ℕ} {E : A → Type 0} (f : A → B) {p : Reader A} → Item l Y j k E p → Item l Y j k Anything (map f p)
+map-item f {p} hp = record { lawful = map-lawful f (hp .lawful); fails = map-fails f p (hp .fails); eager = map-eager f p (hp .eager); starts = λ s. ends-map Anything f p (λ a e. tt) (hp .starts s) }
+
+pub alt-item : {A : Type 0} {l : List ℕ} {Y Z : ℕ → Bool} {i j k n : ℕ} {F : A → Type 0} {p q : Reader A} → Item l Y i j F p → Item l Z k n F q → Item l Y i (most j n) F (alt p q)
+alt-item {p = p} {q = q} hp hq = record { lawful = alt-lawful (hp .lawful) (hq .lawful); fails = alt-fails p q (hp .fails) (hq .fails); eager = alt-eager p q (hp .eager); starts = λ s. ends-alt p q (hp .starts s) }
+
+-- an optional item, and one that may be absent as a fact of its value allows
+pub opt-tail : {A : Type 0} {l : List ℕ} {Y : ℕ → Bool} {j k : ℕ} {E : A → Type 0} {p : Reader A} → Item l Y j k E p → Tail l k (opt p)
+opt-tail {p = p} hp = record { lawful = opt-lawful (λ a e. tt) (hp .lawful); skips = λ c. opt-skips Anything p tt (hp .fails) }
+
+pub opt-tail-if : {A : Type 0} {l : List ℕ} {Y : ℕ → Bool} {j k : ℕ} {E : A → Type 0} {C : Option A → Type 0} {p : Reader A} → ((a : A) → E a → C (some a)) → Item l Y j k E p → TailIf (C none) l k C (opt p)
+opt-tail-if {C = C} {p = p} g hp = record { lawful = opt-lawful g (hp .lawful); skips = λ c. opt-skips C p c (hp .fails) }
+
+-- an item and what may follow it
+pub seq-item : {A B : Type 0} {l : List ℕ} {Y : ℕ → Bool} {i j k : ℕ} {E : A → Type 0} {F : B → Type 0} {p : Reader A} {q : A → Reader B} → Item l Y i j E p → ((a : A) → TailIf (E a) l k F (q a)) → Item l Y i (most j k) F (seq p q)
+seq-item {F = F} {p = p} {q = q} hp hq = record {
+  lawful = seq-lawful (hp .lawful .stable) (hp .lawful .bounded) (hp .lawful .foreign) (λ s at le h. ends-then-skips F p q (λ a. hq a .skips) (hp .lawful .hopeful s at le h)) (λ a. hq a .lawful);
+  fails = seq-fails p q (hp .fails);
+  eager = seq-eager p q (hp .eager);
+  starts = λ s. ends-then-skips F p q (λ a. hq a .skips) (hp .starts s);
+}
+
+-- a byte that a part never takes leaves it as it is
+pub outside-keeps : {A : Type 0} {l : List ℕ} {k : ℕ} {F : A → Type 0} {p : Reader A} (c : ℕ) → Outside l c → Lawful l k F p → Keeps (In (byte c)) p
+outside-keeps {p = p} c o hp = foreign-keeps (In (byte c)) p (λ s b y at e le. hp .foreign s b y at (rw (eqb-true b c e) o) le)
+
+-- an item and the one that must follow it, whose first byte leaves the first as it is
+pub then-item : {A B : Type 0} {l : List ℕ} {Y Z : ℕ → Bool} {i j k n : ℕ} {E : A → Type 0} {F : B → Type 0} {p : Reader A} {q : A → Reader B} → Keeps (In Z) p → Item l Y i j E p → ((a : A) → Item l Z k n F (q a)) → Item l Y (i + k) (most (j + k) n) F (seq p q)
+then-item {Z = Z} {i = i} {j = j} {k = k} {F = F} {p = p} {q = q} kp hp hq = record {
+  lawful = seq-lawful (hp .lawful .stable) (hp .lawful .bounded) (hp .lawful .foreign) (λ s at le h. ends-then-starts j k (In Z) F p q le kp (λ a e. hq a .starts) (hp .lawful .hopeful s at le h)) (λ a. hq a .lawful);
+  fails = seq-fails p q (hp .fails);
+  eager = seq-eager p q (hp .eager);
+  starts = λ s. ends-then-starts i k (In Z) F p q (omega arith) kp (λ a e. hq a .starts) (hp .starts s);
+}
+
+-- a reader that is read alike has the same laws
+pub alike-item : {A : Type 0} {l : List ℕ} {Y : ℕ → Bool} {j k : ℕ} {F : A → Type 0} {p q : Reader A} → Alike p q → Item l Y j k F q → Item l Y j k F p
+alike-item {p = p} {q = q} e hq = record {
+  lawful = record {
+    stable = λ s x at h. let g = hq .lawful .stable s x at (sym (e s at .more) ∙ h) in record { reads = e (s ++ x) at .reads ∙ g .reads ∙ sym (e s at .reads); more = e (s ++ x) at .more ∙ g .more };
+    bounded = λ s at le a n h. hq .lawful .bounded s at le a n (sym (e s at .reads) ∙ h);
+    foreign = λ s c y at x le. e (s ++ c ∷ y) at .reads ∙ hq .lawful .foreign s c y at x le ∙ sym (e s at .reads);
+    hopeful = alike-hopeful p q e (hq .lawful .hopeful);
+  };
+  fails = λ s at h. e s at .reads ∙ hq .fails s at h;
+  eager = λ s at h. e s at .more ∙ hq .eager s at h;
+  starts = λ s. alike-ends p q e (hq .starts s);
+}
+
+-- some optional item must be given: one that is there is enough, as C says, and none is refused
+pub required-item : {A B : Type 0} {l : List ℕ} {Y : ℕ → Bool} {i j k : ℕ} {E : A → Type 0} {C : Option A → Type 0} {F : B → Type 0} (f : B → Bool) {p : Reader A} {q : Option A → Reader B} → ((b : B) → F b → f b ≡ true) → ((a : A) → E a → C (some a)) → Item l Y i j E p → ((o : Option A) → TailIf (C o) l k F (q o)) → Fails (verify f (seq (opt p) q)) → Item l Y i (most j k) F (verify f (seq (opt p) q))
+unfolding verify opt
+required-item {C = C} {F = F} f {p} {q} g given hp hq none-fails = record {
+  lawful = verify-lawful f g (seq-tail (opt-tail-if given hp) hq .lawful);
+  fails = none-fails;
+  eager = seq-eager (opt p) q (hp .eager);
+  starts = λ s. ends-verify f (seq (opt p) q) g (ends-then-skips F (opt p) q (λ o. hq o .skips) (ends-opt C p given (hp .starts s)));
+}
