@@ -9,24 +9,17 @@ use lib.Dec.{ltb, leb, eqb}
 use lib.IntN.{ℤ}
 use borrow.Author.Tests.{ltb-false, leb-true, leb-false, eqb-true}
 use Rattle.types.specs.declared.Date.{Date}
-use Rattle.types.specs.declared.Date.the-variants.{YMD, Week, Ordinal}
+use Rattle.types.specs.declared.Date.the-variants.{YMD}
 use Rattle.parser.specs.Reading.{Found, no, got, lit, seq, opt, lack, alt, map, mapFound, Says}
 use Rattle.parser.specs.Digits.{digit, reach, lowest, highest}
 use Rattle.parser.specs.Fields.{month, day, precededBy}
 use Rattle.parser.proofs.Fields.{true≢false, OtherAt}
 use Rattle.parser.proofs.Says.{says-map, says-opt, says-seq-no, says-alt-no}
-use Rattle.date.specs.Rules.{dash, weekOfYear, week, dayOfWeek, weekAndDay, wd, mdNumeric, dayOfYear, ordinal, ddd, orFirst, dayOfMonth, monthAndDay, md}
+use Rattle.date.specs.Rules.{dash, weekAndDay, wd, mdNumeric, ordinal, ddd, orFirst, dayOfMonth, monthAndDay, md}
 use Rattle.parser.specs.Read.{placeAfter}
 use Rattle.date.specs.Answer.{afterYear}
-use Rattle.parser.proofs.General.{Eager, lit-eager, seq-eager, map-eager, field-eager, SameFrom, same-says, preceded-same, after-same, alt-same, alt-drop, field-no, field-wrong, says-past}
-
-weekAndDay-eager : (y : ℤ) → Eager (weekAndDay y)
-unfolding weekAndDay
-weekAndDay-eager y = seq-eager week (λ w. map (λ d. Week y w d) dayOfWeek) (seq-eager (lit 87) (λ _. weekOfYear) (lit-eager 87))
-
-ordinal-eager : (y : ℤ) → Eager (ordinal y)
-unfolding ordinal reach lowest highest
-ordinal-eager y = map-eager (λ d. Ordinal y d) dayOfYear (field-eager 3 1 366 (omega arith) refl)
+use Rattle.parser.proofs.General.{field-eager, SameFrom, same-says, preceded-same, after-same, alt-same, alt-drop, field-no, field-wrong, says-past}
+use Rattle.date.proofs.Parts.{weekAndDay-item, ordinal-item}
 
 -- ---- what a dash tells, and a byte that is none
 
@@ -84,10 +77,10 @@ module _ (y : ℤ) (s : List ℕ) (at : ℕ) (bare : digit s at ≡ false) where
 
 module _ (y : ℤ) (s : List ℕ) (at from : ℕ) (e : from ≡ placeAfter at (dash .reads s at)) where
   pub week-same : SameFrom (wd y) (weekAndDay y) s at from
-  week-same = preceded-same 45 (weekAndDay y) (weekAndDay-eager y) s at from e
+  week-same = preceded-same 45 (weekAndDay y) (weekAndDay-item y .eager) s at from e
 
   ordinal-same : SameFrom (ddd y) (ordinal y) s at from
-  ordinal-same = preceded-same 45 (ordinal y) (ordinal-eager y) s at from e
+  ordinal-same = preceded-same 45 (ordinal y) (ordinal-item y .eager) s at from e
 
   module _ (f : Found Date) (m : Bool) where
     pub says-after-dash : at < from → Says (weekAndDay y) s from no false → Says (alt (ordinal y) (monthAndDay y)) s from f m → Says (afterYear y) s at f m
@@ -114,7 +107,7 @@ module _ (y : ℤ) (s : List ℕ) (at from : ℕ) (e : from ≡ placeAfter at (d
           where
             go : (t : Bool) → ltb at (length s) ≡ t → ltb at (length s) ≡ true
             go true i = i
-            go false i = absurd (true≢false (sym (weekAndDay-eager y s from (omega (arith, ltb-false at (length s) i))) ∙ sym (w .more)))
+            go false i = absurd (true≢false (sym (weekAndDay-item y .eager s from (omega (arith, ltb-false at (length s) i))) ∙ sym (w .more)))
 
   bare-before : digit s from ≡ false → digit s at ≡ false
   unfolding lit

@@ -1,62 +1,37 @@
--- What holds of every date-time: the date's laws, and a `T` that no date takes, between a date and a time.
-use native.Mathlib.Omega.{arith}
+-- What holds of every date-time: a date's laws and a time's, and between them a `T`, which no date takes.
+use Prim.Native.Nat.{ℕ}
+use mathlib.Core.List.{List, [], _∷_}
+use mathlib.Core.Path.{refl}
 use Rattle.types.specs.declared.Date.{Date}
-use Rattle.parser.specs.Reading.{lit}
-use Rattle.parser.proofs.Stable.{Stable, lit-stable, seq-stable, map-stable}
-use Rattle.parser.proofs.Places.{Bounded, Fails, lit-bounded, seq-bounded, map-bounded, seq-fails}
-use Rattle.parser.proofs.Hopeful.{Anything, Hopeful, Starts, Keeps, foreign-keeps, map-hopeful, hopeful-weaken, ends-then-starts}
-use Rattle.parser.proofs.Leaves.{Byte, DigitByte, lit-starts, lit-hopeful, lit-definite}
-use Rattle.time.specs.Rules.{baseTime}
-use Rattle.time.proofs.Laws.{base-time-stable, base-time-bounded, base-time-starts, base-time-hopeful}
-use Rattle.date.specs.Rules.{date}
-use Rattle.parser.proofs.General.{map-starts, definite-keeps-any, then-starts-hopeful}
-use Rattle.date.proofs.Laws.{date-stable, date-bounded, date-foreign, date-fails, date-hopeful}
-use Rattle.datetime.specs.Rules.{stamp, timeOf, afterDate, dateTime}
+use Rattle.parser.specs.Digits.{isDigit}
+use Rattle.parser.proofs.Stable.{Stable}
+use Rattle.parser.proofs.Places.{Bounded}
+use Rattle.parser.proofs.Hopeful.{Anything, Hopeful}
+use Rattle.parser.proofs.Lawful.{byte, Item, widen, map-item, outside-keeps, then-item}
+use Rattle.parser.proofs.Items.{lit-mark, after-item}
+use Rattle.time.proofs.Laws.{base-time-item}
+use Rattle.date.proofs.Laws.{date-item}
+use Rattle.datetime.specs.Rules.{timeOf, afterDate, dateTime}
 
-module _ (d : Date) where
-  after-date-stable : Stable (afterDate d)
-  unfolding afterDate timeOf
-  after-date-stable = seq-stable (lit 84) (λ _. timeOf d) (lit-stable 84) (λ _. map-stable (stamp d) baseTime base-time-stable)
+-- what a date-time takes beside digits: `+`, `-`, `W`; `T`, `:`, `,`, `.` and `Z`
+abbrev pub bytes : List ℕ
+bytes = 43 ∷ 45 ∷ 87 ∷ 84 ∷ 58 ∷ 44 ∷ 46 ∷ 90 ∷ []
 
-  after-date-bounded : Bounded (afterDate d)
-  unfolding afterDate timeOf
-  after-date-bounded = seq-bounded (lit 84) (λ _. timeOf d) (lit-bounded 84) (λ _. map-bounded (stamp d) baseTime base-time-bounded)
-
-  -- two digits are a time
-  time-of-starts : Starts 2 DigitByte Anything (timeOf d)
-  unfolding timeOf
-  time-of-starts = map-starts Anything (stamp d) baseTime (λ t f. tt) base-time-starts
-
-  T-keeps : Keeps DigitByte (lit 84)
-  T-keeps = definite-keeps-any DigitByte (lit 84) (lit-stable 84) (lit-definite 84)
-
-  after-date-starts : Starts 3 (Byte 84) Anything (afterDate d)
-  unfolding afterDate
-  after-date-starts s = ends-then-starts 1 2 DigitByte Anything (lit 84) (λ _. timeOf d) (omega arith) T-keeps (λ _ _. time-of-starts) (lit-starts Anything 84 tt s)
-
-  after-date-hopeful : Hopeful 3 Anything (afterDate d)
-  unfolding afterDate timeOf
-  after-date-hopeful =
-      then-starts-hopeful 1 2 DigitByte Anything (lit 84) (λ _. timeOf d) (lit-stable 84) (lit-bounded 84) T-keeps (lit-hopeful Anything 84 tt)
-      (λ _ _. time-of-starts)
-      (λ _. map-hopeful Anything (stamp d) baseTime (λ t f. tt) base-time-hopeful)
-
-pub datetime-stable : Stable dateTime
-unfolding dateTime
-datetime-stable = seq-stable date afterDate date-stable after-date-stable
-
-pub datetime-bounded : Bounded dateTime
-unfolding dateTime
-datetime-bounded = seq-bounded date afterDate date-bounded after-date-bounded
-
-pub datetime-fails : Fails dateTime
-unfolding dateTime
-datetime-fails = seq-fails date afterDate date-fails
+after-date-item : (d : Date) → Item bytes (byte 84) 3 3 Anything (afterDate d)
+unfolding afterDate timeOf
+after-date-item d = after-item (lit-mark 84 refl) (λ _. map-item _ (widen refl base-time-item))
 
 -- seven bytes complete the date, and `T` and an hour the date-time
-pub datetime-hopeful : Hopeful 10 Anything dateTime
+pub datetime-item : Item bytes isDigit 10 10 Anything dateTime
 unfolding dateTime
-datetime-hopeful =
-    then-starts-hopeful 7 3 (Byte 84) Anything date afterDate date-stable date-bounded (foreign-keeps (Byte 84) date date-foreign) date-hopeful
-    (λ d _. after-date-starts d)
-    (λ d. hopeful-weaken 10 Anything (afterDate d) (omega arith) (λ t f. f) (after-date-hopeful d))
+datetime-item = then-item (outside-keeps 84 refl (date-item .lawful)) (widen refl date-item) after-date-item
+
+pub datetime-stable : Stable dateTime
+datetime-stable = datetime-item .lawful .stable
+
+pub datetime-bounded : Bounded dateTime
+datetime-bounded = datetime-item .lawful .bounded
+
+-- an open date-time has a continuation of at most ten bytes that changes the answer
+pub datetime-hopeful : Hopeful 10 Anything dateTime
+datetime-hopeful = datetime-item .lawful .hopeful

@@ -51,7 +51,7 @@ module _ (s : List ℕ) (at v n : ℕ) (e : run .reads s at ≡ got v n) where
 
 -- ---- what a part finds, by the look at its place
 
-abbrev pub partFound : ℕ → Item → Found ℕ
+abbrev partFound : ℕ → Item → Found ℕ
 partFound c (item.Number v b n) = pick (eqb b c) (got v n) no
 partFound c item.TooBig = stop 2
 partFound c item.Wrong = no
@@ -76,7 +76,7 @@ pub item-is : (s : List ℕ) (at : ℕ) (f : Found ℕ) (m : Bool) → Says run 
 unfolding itemAt
 item-is s at f m h = rw (← h .found, ← h .more)
 
-pub part-says : (c : ℕ) (s : List ℕ) (at : ℕ) → Says (part c) s at (partFound c (itemAt s at)) (isCut (itemAt s at))
+part-says : (c : ℕ) (s : List ℕ) (at : ℕ) → Says (part c) s at (partFound c (itemAt s at)) (isCut (itemAt s at))
 unfolding part itemAt seq map lit
 part-says c s at = go (run .reads s at) (run .more s at) refl refl
   where

@@ -1,5 +1,5 @@
+pub mod Laws
 pub mod Items
 pub mod Reading
 pub mod Whole
-pub mod Laws
 pub mod Once

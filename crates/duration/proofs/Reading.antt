@@ -2,13 +2,13 @@
 use Prim.Native.Nat.{ℕ, _<_, _≤_}
 use mathlib.Core.List.{List}
 use mathlib.Core.Bool.{Bool, true, false}
-use mathlib.Core.Option.{Option, some, none}
+use mathlib.Core.Option.{some, none}
 use mathlib.Core.Path.{_≡_, refl, sym, _∙_}
 use native.Mathlib.Omega.{arith}
 use lib.ListN.{length}
 use lib.Dec.{ltb, eqb}
 use borrow.Author.Tests.{ltb-true, ltb-false, lt-ltb, le-ltb}
-use Rattle.parser.specs.Reading.{Found, no, got, stop, Reader, lit, seq, opt, verify, keep, map, mapFound, give, pick, or, Says}
+use Rattle.parser.specs.Reading.{Found, no, got, stop, lit, seq, opt, verify, keep, map, mapFound, give, pick, or, Says}
 use Rattle.parser.proofs.Fields.{true≢false}
 use Rattle.parser.proofs.Says.{says-map, says-verify, says-opt, says-seq-got}
 use Rattle.parser.specs.Fields.{orZero}
@@ -21,17 +21,9 @@ use Rattle.duration.specs.declared.Part.{Part}
 use Rattle.duration.specs.declared.Item.{Item}
 use Rattle.duration.specs.declared.Item.the-variants as item
 use Rattle.duration.proofs.Items.{Heeds, part-heeds, optional-part, last-part, map-pick, further, no-letter, end-item}
+use Rattle.duration.proofs.Laws.{clock, from-seconds, from-minutes}
 
 -- ---- H, M and S
-
-abbrev clock : Option ℕ → Option ℕ → Option ℕ → TimeParts
-clock h m x = record { hours = h; minutes = m; seconds = x }
-
-abbrev from-s : Option ℕ → Option ℕ → Reader TimeParts
-from-s h m = seq (opt (part 83)) (λ x. give (clock h m x))
-
-abbrev from-m : Option ℕ → Reader TimeParts
-from-m h = seq (opt (part 77)) (λ m. from-s h m)
 
 -- places that follow each other: the last lies beyond the first where some step goes on
 pub or-lt : (a b c : ℕ) (t : Bool) → a ≤ b → b ≤ c → t ≡ ltb b c → or (ltb a b) t ≡ ltb a c
@@ -65,9 +57,9 @@ base-time s at =
     let t = clock h m (here 83 (itemAt s sat)) in
     let f = unlessTooBig (itemAt s sat) (got t end) in
     let o = isCut (itemAt s sat) in
-    let xs : Says (from-s h m) s sat f o = last-part 83 (clock h m) s sat in
-    let ms : Says (from-m h) s mat f o = optional-part 77 (from-s h) s mat sat f o (part-heeds 83 (λ x. give (clock h none x)) s mat) refl xs in
-    let hs : Says (seq (opt (part 72)) from-m) s at f o = optional-part 72 from-m s at mat f o (part-heeds 77 (from-s none) s at) refl ms in
+    let xs : Says (from-seconds h m) s sat f o = last-part 83 (clock h m) s sat in
+    let ms : Says (from-minutes h) s mat f o = optional-part 77 (from-seconds h) s mat sat f o (part-heeds 83 (λ x. give (clock h none x)) s mat) refl xs in
+    let hs : Says (seq (opt (part 72)) from-minutes) s at f o = optional-part 72 from-minutes s at mat f o (part-heeds 77 (from-seconds none) s at) refl ms in
     let whole = says-map _ s at timeOf _ o (says-verify _ s at someTime f o hs) in
     let hf = further 72 s at in
     let mf = further 77 s mat in
@@ -117,7 +109,7 @@ module _ (s : List ℕ) (at : ℕ) (h m x : Part) (eh : h ≡ partAt s at 72) (e
 base-heeds : (s : List ℕ) (at : ℕ) → Heeds durationBaseTime s at
 unfolding durationBaseTime map verify
 base-heeds s at =
-    let h = part-heeds 72 from-m s at in
+    let h = part-heeds 72 from-minutes s at in
     record { stops = λ e. says-map _ s at timeOf _ false (says-verify _ s at someTime _ false (h .stops e)); opens = h .opens }
 
 -- ---- the time, with its `T` and without

@@ -1,16 +1,16 @@
 -- What the code makes of Y, M, W, D and the time is what the rule reads, `P` and all.
 use Prim.Native.Nat.{ℕ}
 use mathlib.Core.List.{List}
-use mathlib.Core.Bool.{Bool, true, false}
+use mathlib.Core.Bool.{Bool, false}
 use mathlib.Core.Option.{Option, some, none}
 use mathlib.Core.Path.{_≡_, refl, sym, _∙_}
 use native.Mathlib.Omega.{arith}
 use lib.Dec.{ltb}
 use Rattle.types.specs.declared.Duration.{Duration}
-use Rattle.parser.specs.Reading.{Found, no, got, stop, Reader, lit, seq, opt, lack, verify, keep, map, mapFound, give, or, Says}
+use Rattle.parser.specs.Reading.{Found, no, got, stop, lit, seq, opt, lack, verify, keep, map, mapFound, give, or, Says}
 use Rattle.parser.proofs.Says.{says-map, says-verify, says-opt, says-seq-got, says-seq-no, says-seq-stop}
 use Rattle.parser.specs.Fields.{orZero}
-use Rattle.duration.specs.Rules.{part, present, durationTime, Parts, partsRule, somePart, durationOf, duration}
+use Rattle.duration.specs.Rules.{present, durationTime, partsRule, somePart, durationOf, duration}
 use Rattle.duration.specs.Answer.{timeFound, timeMore, durationFound, durationMore}
 use Rattle.duration.specs.Items.{itemAt, here, past, partAt, allParts}
 use Rattle.duration.specs.declared.DurationTimeParts.{DurationTimeParts}
@@ -18,33 +18,19 @@ use Rattle.duration.specs.declared.TimeFound.{TimeFound}
 use Rattle.duration.specs.declared.DurationFound.{DurationFound}
 use Rattle.duration.specs.declared.Part.{Part}
 use Rattle.duration.proofs.Items.{Heeds, part-heeds, optional-part, map-pick, further}
+use Rattle.duration.proofs.Laws.{or-true, parts, from-time, from-days, from-weeks, from-months}
 use Rattle.duration.proofs.Reading.{or-false, or-lt, time-heeds}
-
-abbrev parts : Option ℕ → Option ℕ → Option ℕ → Option ℕ → Option DurationTimeParts → Parts
-parts y mo w d t = record { years = y; months = mo; weeks = w; days = d; time = t }
-
-abbrev from-t : Option ℕ → Option ℕ → Option ℕ → Option ℕ → Reader Parts
-from-t y mo w d = seq (opt durationTime) (λ t. give (parts y mo w d t))
-
-abbrev from-d : Option ℕ → Option ℕ → Option ℕ → Reader Parts
-from-d y mo w = seq (opt (part 68)) (λ d. from-t y mo w d)
-
-abbrev from-w : Option ℕ → Option ℕ → Reader Parts
-from-w y mo = seq (opt (part 87)) (λ w. from-d y mo w)
-
-abbrev from-mo : Option ℕ → Reader Parts
-from-mo y = seq (opt (part 77)) (λ mo. from-w y mo)
 
 -- ---- the optional time at the end
 
 module _ (y mo w d : Option ℕ) (s : List ℕ) (at : ℕ) where
-  the-time : (f : Found DurationTimeParts) (m : Bool) → Says durationTime s at f m → Says (from-t y mo w d) s at (mapFound (parts y mo w d) (lack at f)) m
+  the-time : (f : Found DurationTimeParts) (m : Bool) → Says durationTime s at f m → Says (from-time y mo w d) s at (mapFound (parts y mo w d) (lack at f)) m
   unfolding give
   the-time no m h = rw (← or-false m) (says-seq-got (opt durationTime) s at (λ t. give (parts y mo w d t)) none at m (got (parts y mo w d none) at) false (says-opt durationTime s at no m h) (record { found = refl; more = refl }))
   the-time (stop r) m h = says-seq-stop (opt durationTime) s at (λ t. give (parts y mo w d t)) r m (says-opt durationTime s at (stop r) m h)
   the-time (got t n) m h = rw (← or-false m) (says-seq-got (opt durationTime) s at (λ t. give (parts y mo w d t)) (some t) n m (got (parts y mo w d (some t)) n) false (says-opt durationTime s at (got t n) m h) (record { found = refl; more = refl }))
 
-  the-time-heeds : Heeds (from-t y mo w d) s at
+  the-time-heeds : Heeds (from-time y mo w d) s at
   unfolding seq opt
   the-time-heeds = record {
     stops = λ e. says-seq-stop (opt durationTime) s at (λ t. give (parts y mo w d t)) 2 false (says-opt durationTime s at (stop 2) false (time-heeds s at .stops e));
@@ -52,10 +38,6 @@ module _ (y mo w d : Option ℕ) (s : List ℕ) (at : ℕ) where
   }
 
 -- ---- one part is given, and an absent one is 0
-
-or-true : (m : Bool) → or m true ≡ true
-or-true true = refl
-or-true false = refl
 
 abbrev part-of : Option ℕ → ℕ → Part
 part-of o n = record { value = orZero o; next = n }
@@ -91,10 +73,10 @@ all-parts s at f m k =
     let w = here 87 (itemAt s wat) in
     let d = here 68 (itemAt s dat) in
     let g = mapFound (parts y mo w d) (lack tat f) in
-    let ds : Says (from-d y mo w) s dat g m = optional-part 68 (from-t y mo w) s dat tat g m (the-time-heeds y mo w none s dat) refl (the-time y mo w d s tat f m k) in
-    let ws : Says (from-w y mo) s wat g m = optional-part 87 (from-d y mo) s wat dat g m (part-heeds 68 (from-t y mo none) s wat) refl ds in
-    let ms : Says (from-mo y) s mat g m = optional-part 77 (from-w y) s mat wat g m (part-heeds 87 (from-d y none) s mat) refl ws in
-    let ys : Says partsRule s at g m = optional-part 89 from-mo s at mat g m (part-heeds 77 (from-w none) s at) refl ms in
+    let ds : Says (from-days y mo w) s dat g m = optional-part 68 (from-time y mo w) s dat tat g m (the-time-heeds y mo w none s dat) refl (the-time y mo w d s tat f m k) in
+    let ws : Says (from-weeks y mo) s wat g m = optional-part 87 (from-days y mo) s wat dat g m (part-heeds 68 (from-time y mo none) s wat) refl ds in
+    let ms : Says (from-months y) s mat g m = optional-part 77 (from-weeks y) s mat wat g m (part-heeds 87 (from-days y none) s mat) refl ws in
+    let ys : Says partsRule s at g m = optional-part 89 from-months s at mat g m (part-heeds 77 (from-weeks none) s at) refl ms in
     let whole = says-map _ s at durationOf _ m (says-verify _ s at somePart g m ys) in
     let yf = further 89 s at in
     let mf = further 77 s mat in

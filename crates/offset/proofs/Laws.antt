@@ -1,4 +1,4 @@
--- The laws of offsets: what other kinds cite, and the verdict.
+-- The laws of offsets, part by part. What is still open, an hour or a minute, can be completed above 0, so that a minus is allowed.
 use Prim.Native.Nat.{ℕ, _≤_}
 use mathlib.Core.List.{List, [], _∷_}
 use mathlib.Core.Bool.{Bool, true, false, not}
@@ -12,14 +12,13 @@ use Rattle.parser.specs.Reading.{Found, no, got, stop, Says, lit, seq, after, a
 use Rattle.parser.specs.Fields.{hour, signed}
 use Rattle.parser.proofs.Fields.{true≢false, and-right}
 use Rattle.parser.proofs.Stable.{Stable}
-use Rattle.parser.proofs.Places.{no≢got, Bounded, Fails, lit-fails}
+use Rattle.parser.proofs.Places.{no≢got, Bounded, lit-fails}
 use Rattle.parser.proofs.Hopeful.{Anything, Hopeful}
 use Rattle.parser.proofs.Leaves.{From, above-zero, signed-at-end}
 use Rattle.parser.proofs.Says.{says-alt-no, says-map}
-use Rattle.parser.proofs.Lawful.{byte, TailIf, tail-where, map-tail, verify-tail, Item, map-item, alt-item, opt-tail-if, seq-item}
+use Rattle.parser.proofs.Lawful.{byte, TailIf, tail-where, map-tail, Item, map-item, alt-item, tested-tail, seq-item}
 use Rattle.parser.proofs.Items.{lit-mark, signed-mark, after-item, preceded-item, field-item-in}
 use Rattle.offset.specs.Rules.{allowed, offsetMinute, offsetHour, offsetZulu, offset}
-use Rattle.parser.specs.Fields.{orZero}
 
 -- another byte than c
 lit-other : (c : ℕ) (s : List ℕ) (at : ℕ) → eqb (getD s at 0) c ≡ false → lit c .reads s at ≡ no
@@ -81,9 +80,8 @@ bytes = 43 ∷ 45 ∷ 58 ∷ 90 ∷ []
 minute-tail : (minus : Bool) (h : ℕ) → TailIf (From 1 23 h) bytes 2 Anything (offsetMinute minus h)
 unfolding offsetMinute
 minute-tail minus h =
-    map-tail _ (verify-tail _ (λ o a. a) (tail-where (λ f. allowed-hour minus h 0 (f .0))
-    (opt-tail-if {C = λ o. allowed minus h (orZero o) ≡ true} (λ m f. allowed-minute minus h m (f .0))
-    (preceded-item 58 refl refl (field-item-in 2 0 59 1 59 refl (above-zero 59 (omega arith)))))))
+    map-tail _ (tail-where (λ f. allowed-hour minus h 0 (f .0))
+    (tested-tail _ (preceded-item 58 refl refl (field-item-in 2 0 59 1 59 refl (above-zero 59 (omega arith)))) (λ m f. allowed-minute minus h m (f .0))))
 
 hour-item : Item bytes (byte 45) 3 3 Anything offsetHour
 unfolding offsetHour
@@ -98,9 +96,6 @@ offset-stable = offset-item .lawful .stable
 
 pub offset-bounded : Bounded offset
 offset-bounded = offset-item .lawful .bounded
-
-pub offset-fails : Fails offset
-offset-fails = offset-item .fails
 
 -- an open offset has a continuation of at most three bytes that changes the answer
 pub offset-hopeful : Hopeful 3 Anything offset

@@ -3,7 +3,7 @@ use Prim.Native.Nat.{ℕ}
 use mathlib.Core.List.{List, _∷_, _++_}
 use mathlib.Core.Bool.{Bool, true, false}
 use mathlib.Core.Path.{_≡_, refl, sym, _∙_}
-use Rattle.parser.specs.Reading.{Found, no, got, stop, Reader, seq, alt, failed, or, and, Says}
+use Rattle.parser.specs.Reading.{Found, no, got, stop, Reader, seq, alt, verify, failed, or, and, Says}
 use Rattle.parser.proofs.Hopeful.{Ends, Hopeful}
 
 pub record AlikeAt {A : Type 0} (p q : Reader A) (s : List ℕ) (at : ℕ) : Type 0 where
@@ -37,6 +37,16 @@ common-beginning {A} {B} p f g q e s at = go (p .reads s at) refl
         tail : (m x y z : Bool) → or (or m x) (and y (or m z)) ≡ or m (or x (and y z))
         tail true x y z = refl
         tail false x y z = refl
+
+-- a test of the whole is a test of what is read last
+pub verify-behind : {A B : Type 0} (f : B → Bool) (p : Reader A) (q : A → Reader B) → Alike (verify f (seq p q)) (seq p (λ a. verify f (q a)))
+unfolding verify seq
+verify-behind {A} f p q s at = go (p .reads s at) refl
+  where
+    go : (x : Found A) → p .reads s at ≡ x → AlikeAt (verify f (seq p q)) (seq p (λ a. verify f (q a))) s at
+    go no e = record { reads = rw e; more = refl }
+    go (stop r) e = record { reads = rw e; more = refl }
+    go (got a n) e = record { reads = rw e; more = refl }
 
 pub alike-says : {A : Type 0} (p q : Reader A) → Alike p q → (s : List ℕ) (at : ℕ) (f : Found A) (m : Bool) → Says q s at f m → Says p s at f m
 alike-says p q e s at f m h = record { found = h .found ∙ sym (e s at .reads); more = h .more ∙ sym (e s at .more) }

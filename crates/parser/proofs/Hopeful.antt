@@ -6,10 +6,10 @@ use mathlib.Core.Option.{Option, some, none}
 use mathlib.Core.Path.{_≡_, refl, sym, _∙_}
 use native.Mathlib.Omega.{arith}
 use lib.ListN.{length, length-append}
-use Rattle.parser.specs.Reading.{Found, no, got, stop, Reader, seq, then, after, opt, lack, alt, failed, verify, map, mapFound, give, or, and}
+use Rattle.parser.specs.Reading.{Found, no, got, stop, Reader, seq, after, opt, alt, failed, verify, map, give, or, and}
 use Rattle.parser.proofs.Fields.{true≢false}
-use Rattle.parser.proofs.Stable.{Stable, opt-stable}
-use Rattle.parser.proofs.Places.{no≢got, stop≢got, Bounded, Fails, Skips, Foreign, opt-bounded, opt-foreign}
+use Rattle.parser.proofs.Stable.{Stable}
+use Rattle.parser.proofs.Places.{no≢got, Bounded, Fails, Skips, Foreign, opt-foreign}
 
 -- At most k bytes, the first of them one of X, after which p reads everything from the place on, and a fact F of what it reads.
 pub record Ends {A : Type 0} (k : ℕ) (X : ℕ → Type 0) (F : A → Type 0) (p : Reader A) (s : List ℕ) (at : ℕ) : Type 0 where
@@ -43,8 +43,8 @@ Keeps {A} X p = (s : List ℕ) (at : ℕ) (a : A) → p .reads s at ≡ got a (l
 abbrev pub Definite : {A : Type 0} → Reader A → Type 0
 Definite {A} p = (s : List ℕ) (at : ℕ) (a : A) (n : ℕ) → p .reads s at ≡ got a n → p .more s at ≡ false
 
-pub definite-keeps : {A : Type 0} (p : Reader A) → Stable p → Definite p → Keeps AnyByte p
-definite-keeps p sp dp s at a e le c y x = sp s (c ∷ y) at (dp s at a (length s) e) .reads ∙ e
+pub definite-keeps : {A : Type 0} (X : ℕ → Type 0) (p : Reader A) → Stable p → Definite p → Keeps X p
+definite-keeps X p sp dp s at a e le c y x = sp s (c ∷ y) at (dp s at a (length s) e) .reads ∙ e
 
 pub foreign-keeps : {A : Type 0} (X : ℕ → Type 0) (p : Reader A) → Foreign X p → Keeps X p
 foreign-keeps X p fp s at a e le c y x = fp s c y at x le ∙ e
@@ -71,45 +71,10 @@ at-end-definite p ep fp s at a n e = go (p .more s at) refl
     go true h = absurd (no≢got (sym (fp s at (ep s at h)) ∙ e))
     go false h = h
 
-pub map-definite : {A B : Type 0} (f : A → B) (p : Reader A) → Definite p → Definite (map f p)
-unfolding map
-map-definite {A} f p dp s at b n e = go (p .reads s at) refl e
-  where
-    go : (x : Found A) → p .reads s at ≡ x → mapFound f x ≡ got b n → p .more s at ≡ false
-    go no ex e = absurd (no≢got e)
-    go (stop r) ex e = absurd (stop≢got e)
-    go (got a m) ex e = dp s at a m ex
-
-pub seq-definite : {A B : Type 0} (p : Reader A) (q : A → Reader B) → Definite p → ((a : A) → Definite (q a)) → Definite (seq p q)
-unfolding seq
-seq-definite {A} p q dp dq s at b n e = go (p .reads s at) refl e
-  where
-    go : (x : Found A) → p .reads s at ≡ x → then x (λ a m. q a .reads s m) ≡ got b n → or (p .more s at) (after x (λ a m. q a .more s m)) ≡ false
-    go no ex e = absurd (no≢got e)
-    go (stop r) ex e = absurd (stop≢got e)
-    go (got a m) ex e = rw (dp s at a m ex) (dq a s m b n e)
-
--- an optional item that is open at the end alone, before what fails there
-pub opt-seq-definite : {A B : Type 0} (p : Reader A) (q : Option A → Reader B) → AtEnd p → Fails p → ((o : Option A) → Definite (q o)) → Fails (q none) → Definite (seq (opt p) q)
-unfolding seq opt
-opt-seq-definite {A} p q ep fp dq fq s at b n e = go (p .more s at) refl
-  where
-    rest : p .more s at ≡ false → (x : Found A) → p .reads s at ≡ x → then (lack at x) (λ a m. q a .reads s m) ≡ got b n → or (p .more s at) (after (lack at x) (λ a m. q a .more s m)) ≡ false
-    rest em no ex e = rw em (dq none s at b n e)
-    rest em (stop r) ex e = absurd (stop≢got e)
-    rest em (got a m) ex e = rw em (dq (some a) s m b n e)
-
-    go : (m : Bool) → p .more s at ≡ m → or (p .more s at) (after (lack at (p .reads s at)) (λ a m. q a .more s m)) ≡ false
-    go true h = let end = ep s at h in absurd (no≢got (sym (rw (fp s at end, fq s at end)) ∙ e))
-    go false h = rest h (p .reads s at) refl e
-
 pub starts-hopeful : {A : Type 0} {k : ℕ} {X : ℕ → Type 0} {F : A → Type 0} (p : Reader A) → AtEnd p → Starts k X F p → Hopeful k F p
 starts-hopeful {A} {k} {X} {F} p ep st s at le h =
     let here : length s ≡ at = omega (arith, ep s at h) in
     rw (← here) (starts-weaken p st s)
-
-pub hopeful-starts : {A : Type 0} {k : ℕ} {F : A → Type 0} (p : Reader A) → ((s : List ℕ) → p .more s (length s) ≡ true) → Hopeful k F p → Starts k AnyByte F p
-hopeful-starts p mp hp s = hp s (length s) (omega arith) (mp s)
 
 -- ---- an end of a part is an end of the whole
 
@@ -221,12 +186,3 @@ seq-hopeful {A} {B} {k} {F} p q sp bp hp hq s at le h = go (p .more s at) refl
 pub left-out-starts : {A B : Type 0} {k : ℕ} {F : B → Type 0} (X : ℕ → Type 0) (p : Reader A) (q : Option A → Reader B) → Fails p → Foreign X p → Starts k X F (q none) → Starts k X F (seq (opt p) q)
 unfolding opt
 left-out-starts X p q fp xp st s = ends-after (opt p) q s (length s) (omega arith) (foreign-keeps X (opt p) (opt-foreign X p xp)) none (rw (fp s (length s) (omega arith))) st
-
-pub left-out-hopeful : {A B : Type 0} {k : ℕ} {F : B → Type 0} (X : ℕ → Type 0) (p : Reader A) (q : Option A → Reader B) → Stable p → Bounded p → AtEnd p → Fails p → Foreign X p → Starts k X F (q none) → ((o : Option A) → Hopeful k F (q o)) → Hopeful k F (seq (opt p) q)
-unfolding opt
-left-out-hopeful {A} {B} {k} {F} X p q sp bp ep fp xp st hq = seq-hopeful (opt p) q (opt-stable p sp) (opt-bounded p bp) ends hq
-  where
-    ends : (s : List ℕ) (at : ℕ) → at ≤ length s → p .more s at ≡ true → Ends k AnyByte F (seq (opt p) q) s at
-    ends s at le h =
-        let here : length s ≡ at = omega (arith, ep s at h) in
-        rw (← here) (ends-weaken k AnyByte F (omega arith) (λ c x. tt) (λ b f. f) (left-out-starts X p q fp xp st s))

@@ -7,17 +7,17 @@ use mathlib.Core.Path.{_≡_, refl, sym, _∙_}
 use native.Mathlib.Omega.{arith}
 use lib.ListN.{length}
 use lib.Dec.{ltb, leb}
-use borrow.Author.Tests.{leb-true, le-leb, eq-eqb}
+use borrow.Author.Tests.{leb-true, le-leb, eqb-true}
 use Rattle.parser.specs.Reading.{Reader, lit, seq, opt, alt, map, and}
 use Rattle.parser.specs.Digits.{isDigit, field, lowest, highest, reach, run, fraction}
 use Rattle.parser.specs.Fields.{signed, either, precededBy}
 use Rattle.parser.proofs.Fields.{true≢false, and-first, and-second}
 use Rattle.parser.proofs.Stable.{lit-stable, opt-stable, field-stable, fraction-stable, run-stable}
 use Rattle.parser.proofs.Places.{Foreign, lit-bounded, opt-bounded, field-bounded, run-bounded, fraction-bounded, lit-fails, field-fails, run-fails, fraction-fails, seq-fails, lit-foreign, opt-foreign, run-foreign, fraction-foreign, field-foreign}
-use Rattle.parser.proofs.Hopeful.{Ends, AnyByte, Anything, Starts, Keeps, AtEnd, at-end-definite, ends-weaken, starts-weaken, left-out-starts}
-use Rattle.parser.proofs.Leaves.{From, Narrows, lit-starts, lit-at-end, lit-hopeful, map-at-end, alt-at-end, signed-foreign, field-hopeful-in, field-starts, field-definite}
+use Rattle.parser.proofs.Hopeful.{Ends, AnyByte, Anything, Starts, Keeps, AtEnd, definite-keeps, at-end-definite, starts-weaken, left-out-starts}
+use Rattle.parser.proofs.Leaves.{From, Narrows, lit-starts, lit-at-end, lit-hopeful, map-at-end, alt-at-end, field-hopeful-in, field-starts, field-definite}
 use Rattle.parser.proofs.RunLeaves.{fraction-eager, fraction-hopeful, fraction-starts, run-eager, run-then-starts, run-then-ends}
-use Rattle.parser.proofs.General.{lit-eager, seq-eager, field-eager, definite-keeps-any}
+use Rattle.parser.proofs.General.{lit-eager, seq-eager, field-eager}
 use Rattle.parser.proofs.Lawful.{most, In, byte, member, Outside, told-apart, outside-digit, outside-other, seq-lawful, Item, forget, map-item, alt-item, then-item}
 
 -- ---- single bytes: items that are open at the end of the input alone
@@ -29,10 +29,10 @@ pub record Mark {A : Type 0} (l : List ℕ) (c : ℕ) (p : Reader A) : Type 0 wh
 pub lit-mark : {l : List ℕ} (c : ℕ) → member l c ≡ true → Mark l c (lit c)
 lit-mark {l} c h = record {
   item = record {
-    lawful = record { stable = lit-stable c; bounded = lit-bounded c; foreign = lit-foreign (Outside l) c (outside-other l c h); hopeful = lit-hopeful Anything c tt };
+    lawful = record { stable = lit-stable c; bounded = lit-bounded c; foreign = lit-foreign (Outside l) c (outside-other l c h); hopeful = lit-hopeful c };
     fails = lit-fails c;
     eager = lit-eager c;
-    starts = λ s. ends-weaken 1 (In (byte c)) Anything (omega arith) (λ b e. eq-eqb b c e) (λ a f. f) (lit-starts Anything c tt s);
+    starts = lit-starts c;
   };
   at-end = lit-at-end c;
 }
@@ -51,7 +51,7 @@ signed-mark h g = alt-mark (map-mark (λ _. true) (lit-mark 45 h)) (map-mark (λ
 
 -- a byte and what must follow it
 pub after-item : {A B : Type 0} {l : List ℕ} {c : ℕ} {Z : ℕ → Bool} {k n : ℕ} {F : B → Type 0} {p : Reader A} {q : A → Reader B} → Mark l c p → ((a : A) → Item l Z k n F (q a)) → Item l (byte c) (1 + k) (most (1 + k) n) F (seq p q)
-after-item {Z = Z} {p = p} hp hq = then-item (definite-keeps-any (In Z) p (hp .item .lawful .stable) (at-end-definite p (hp .at-end) (hp .item .fails))) (hp .item) hq
+after-item {Z = Z} {p = p} hp hq = then-item (definite-keeps (In Z) p (hp .item .lawful .stable) (at-end-definite p (hp .at-end) (hp .item .fails))) (hp .item) hq
 
 -- an optional byte in front is left out where the input ends, if what follows starts with another
 pub left-out-item : {A B : Type 0} {l : List ℕ} {c : ℕ} {Z : ℕ → Bool} {k n : ℕ} {F : B → Type 0} {p : Reader A} {q : Option A → Reader B} → Mark l c p → Foreign (In Z) p → ((o : Option A) → Item l Z k n F (q o)) → Item l Z k (most k n) F (seq (opt p) q)
@@ -133,7 +133,7 @@ pub field-item : {l : List ℕ} (n lo hi : ℕ) → fits n lo hi ≡ true → It
 field-item n lo hi h = forget (field-item-in n lo hi lo hi (rw (le-leb lo lo (omega arith), le-leb hi hi (omega arith)) h) (λ n v r. r))
 
 pub field-keeps : (n lo hi : ℕ) → Keeps (In isDigit) (field n lo hi)
-field-keeps n lo hi = definite-keeps-any (In isDigit) (field n lo hi) (field-stable n lo hi) (field-definite n lo hi)
+field-keeps n lo hi = definite-keeps (In isDigit) (field n lo hi) (field-stable n lo hi) (field-definite n lo hi)
 
 -- ---- runs and the fraction
 
@@ -145,11 +145,17 @@ fraction-item {l} = record {
   starts = fraction-starts;
 }
 
--- a run and what must follow it
-pub run-item : {B : Type 0} {l : List ℕ} {Z : ℕ → Bool} {k n : ℕ} {F : B → Type 0} {q : ℕ → Reader B} → ((c : ℕ) → In Z c → isDigit c ≡ false) → ((v : ℕ) → Item l Z k n F (q v)) → Item l isDigit (1 + k) (most (1 + k) n) F (seq run q)
-run-item {l = l} {Z = Z} {q = q} nd hq = record {
-  lawful = seq-lawful run-stable run-bounded (run-foreign (Outside l) (outside-digit l)) (run-then-ends (In Z) q nd (λ v. hq v .starts)) (λ v. hq v .lawful);
+-- a run and what must follow it, which starts with the byte c
+pub run-item : {B : Type 0} {l : List ℕ} (c : ℕ) {k n : ℕ} {F : B → Type 0} {q : ℕ → Reader B} → isDigit c ≡ false → ((v : ℕ) → Item l (byte c) k n F (q v)) → Item l isDigit (1 + k) (most (1 + k) n) F (seq run q)
+run-item {l = l} c {k = k} {F = F} {q = q} d hq = record {
+  lawful = seq-lawful run-stable run-bounded (run-foreign (Outside l) (outside-digit l)) (run-then-ends (In (byte c)) q other begun) (λ v. hq v .lawful);
   fails = seq-fails run q run-fails;
   eager = seq-eager run q run-eager;
-  starts = run-then-starts (In Z) q nd (λ v. hq v .starts);
+  starts = run-then-starts (In (byte c)) q other begun;
 }
+  where
+    other : (b : ℕ) → In (byte c) b → isDigit b ≡ false
+    other b e = rw (eqb-true b c e) d
+
+    begun : (v : ℕ) → Starts k (In (byte c)) F (q v)
+    begun v = hq v .starts

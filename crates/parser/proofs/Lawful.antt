@@ -8,7 +8,8 @@ use native.Mathlib.Omega.{arith}
 use lib.ListN.{length}
 use lib.Dec.{leb, eqb}
 use borrow.Author.Tests.{leb-true, leb-false, eqb-true}
-use Rattle.parser.specs.Reading.{Reader, seq, opt, alt, verify, map, give, or, and, pick}
+use Rattle.parser.specs.Reading.{Found, Reader, seq, opt, alt, verify, map, give, or, and, pick, Says}
+use Rattle.parser.specs.Answer.{begun, Begins, verdictOf}
 use Rattle.parser.specs.Digits.{isDigit}
 use Rattle.parser.proofs.Fields.{true≢false, and-first, and-second}
 use Rattle.parser.proofs.Stable.{Stable, or-false, give-stable, verify-stable, map-stable, opt-stable, seq-stable, alt-stable}
@@ -16,6 +17,7 @@ use Rattle.parser.proofs.Places.{Bounded, give-bounded, seq-bounded, op
 use Rattle.parser.proofs.Places.{Fails, Skips, seq-fails, alt-fails, map-fails, opt-skips, give-skips, seq-skips, map-skips, verify-skips}
 use Rattle.parser.proofs.Places.{Foreign, give-foreign, seq-foreign, opt-foreign, alt-foreign, verify-foreign, map-foreign}
 use Rattle.parser.proofs.Hopeful.{Ends, AnyByte, Anything, Hopeful, Starts, Keeps, foreign-keeps, ends-weaken, hopeful-weaken, ends-map, ends-verify, ends-opt, ends-alt, ends-then-skips, ends-then-starts, map-hopeful, verify-hopeful, opt-hopeful, give-hopeful, alt-hopeful, seq-hopeful}
+use Rattle.parser.proofs.Verdict.{says-begins}
 use Rattle.parser.proofs.Alike.{Alike, alike-ends, alike-hopeful}
 use Rattle.parser.proofs.General.{Eager, seq-eager, map-eager, alt-eager}
 
@@ -115,12 +117,17 @@ seq-lawful {A} {B} {l} {j} {k} {F} {p} {q} sp bp fp ends hq = record {
   hopeful = seq-hopeful p q sp bp (λ s at le h. ends-weaken (most j k) AnyByte F (most-left j k) (λ c x. x) (λ b f. f) (ends s at le h)) (λ a. hopeful-weaken (most j k) F (q a) (most-right j k) (λ b f. f) (hq a .hopeful));
 }
 
+-- so what code says of a part at the beginning is what a reader has to promise
+pub lawful-begins : {A : Type 0} {l : List ℕ} {k : ℕ} {F : A → Type 0} {p : Reader A} → Lawful l k F p → (s : List ℕ) (f : Found A) (m : Bool) → Says p s 0 f m → Begins k p s (begun f) (verdictOf m)
+lawful-begins {k = k} {F = F} {p = p} hp = says-begins k F p (hp .stable) (hp .bounded) (hp .hopeful)
+
 -- ---- what may be absent: past the end it takes nothing, where C holds, and its value has the fact
 
 pub record TailIf {A : Type 0} (C : Type 0) (l : List ℕ) (k : ℕ) (F : A → Type 0) (p : Reader A) : Type 0 where
   pub lawful : Lawful l k F p
   pub skips : C → Skips F p
 
+-- absent anywhere, and with no fact
 abbrev pub Tail : {A : Type 0} → List ℕ → ℕ → Reader A → Type 0
 Tail l k p = TailIf Unit l k Anything p
 
@@ -130,14 +137,12 @@ give-tail {A} {l} {F} a = record {
   skips = give-skips F a;
 }
 
+-- a condition that is enough
 pub tail-where : {A : Type 0} {C D : Type 0} {l : List ℕ} {k : ℕ} {F : A → Type 0} {p : Reader A} → (D → C) → TailIf C l k F p → TailIf D l k F p
 tail-where g hp = record { lawful = hp .lawful; skips = λ d. hp .skips (g d) }
 
 pub map-tail : {A B : Type 0} {C : Type 0} {l : List ℕ} {k : ℕ} {E : A → Type 0} (f : A → B) {p : Reader A} → TailIf C l k E p → TailIf C l k Anything (map f p)
 map-tail {E = E} f {p} hp = record { lawful = map-lawful f (hp .lawful); skips = λ c. map-skips E Anything f p (λ a e. tt) (hp .skips c) }
-
-pub verify-tail : {A : Type 0} {C : Type 0} {l : List ℕ} {k : ℕ} {F : A → Type 0} (f : A → Bool) {p : Reader A} → ((a : A) → F a → f a ≡ true) → TailIf C l k F p → TailIf C l k F (verify f p)
-verify-tail {F = F} f {p} g hp = record { lawful = verify-lawful f g (hp .lawful); skips = λ c. verify-skips F f p g (hp .skips c) }
 
 pub seq-tail : {A B : Type 0} {C : Type 0} {l : List ℕ} {j k : ℕ} {E : A → Type 0} {F : B → Type 0} {p : Reader A} {q : A → Reader B} → TailIf C l j E p → ((a : A) → TailIf (E a) l k F (q a)) → TailIf C l (most j k) F (seq p q)
 seq-tail {E = E} {F = F} {p = p} {q = q} hp hq = record {
@@ -169,12 +174,16 @@ map-item f {p} hp = record { lawful = map-lawful f (hp .lawful); fails = map-fai
 pub alt-item : {A : Type 0} {l : List ℕ} {Y Z : ℕ → Bool} {i j k n : ℕ} {F : A → Type 0} {p q : Reader A} → Item l Y i j F p → Item l Z k n F q → Item l Y i (most j n) F (alt p q)
 alt-item {p = p} {q = q} hp hq = record { lawful = alt-lawful (hp .lawful) (hq .lawful); fails = alt-fails p q (hp .fails) (hq .fails); eager = alt-eager p q (hp .eager); starts = λ s. ends-alt p q (hp .starts s) }
 
--- an optional item, and one that may be absent as a fact of its value allows
+-- an optional item: absent without more, or where what follows can do without it, and with it
 pub opt-tail : {A : Type 0} {l : List ℕ} {Y : ℕ → Bool} {j k : ℕ} {E : A → Type 0} {p : Reader A} → Item l Y j k E p → Tail l k (opt p)
 opt-tail {p = p} hp = record { lawful = opt-lawful (λ a e. tt) (hp .lawful); skips = λ c. opt-skips Anything p tt (hp .fails) }
 
-pub opt-tail-if : {A : Type 0} {l : List ℕ} {Y : ℕ → Bool} {j k : ℕ} {E : A → Type 0} {C : Option A → Type 0} {p : Reader A} → ((a : A) → E a → C (some a)) → Item l Y j k E p → TailIf (C none) l k C (opt p)
-opt-tail-if {C = C} {p = p} g hp = record { lawful = opt-lawful g (hp .lawful); skips = λ c. opt-skips C p c (hp .fails) }
+pub opt-tail-if : {A : Type 0} {l : List ℕ} {Y : ℕ → Bool} {j k : ℕ} {E : A → Type 0} {C : Option A → Type 0} {p : Reader A} → Item l Y j k E p → ((a : A) → E a → C (some a)) → TailIf (C none) l k C (opt p)
+opt-tail-if {C = C} {p = p} hp g = record { lawful = opt-lawful g (hp .lawful); skips = λ c. opt-skips C p c (hp .fails) }
+
+-- an optional item under a test: absent where the test allows that
+pub tested-tail : {A : Type 0} {l : List ℕ} {Y : ℕ → Bool} {j k : ℕ} {E : A → Type 0} (f : Option A → Bool) {p : Reader A} → Item l Y j k E p → ((a : A) → E a → f (some a) ≡ true) → TailIf (f none ≡ true) l k (λ o. f o ≡ true) (verify f (opt p))
+tested-tail f {p} hp g = let t = opt-tail-if hp g in record { lawful = verify-lawful f (λ o e. e) (t .lawful); skips = λ c. verify-skips (λ o. f o ≡ true) f (opt p) (λ o e. e) (t .skips c) }
 
 -- an item and what may follow it
 pub seq-item : {A B : Type 0} {l : List ℕ} {Y : ℕ → Bool} {i j k : ℕ} {E : A → Type 0} {F : B → Type 0} {p : Reader A} {q : A → Reader B} → Item l Y i j E p → ((a : A) → TailIf (E a) l k F (q a)) → Item l Y i (most j k) F (seq p q)
@@ -212,12 +221,12 @@ alike-item {p = p} {q = q} e hq = record {
   starts = λ s. alike-ends p q e (hq .starts s);
 }
 
--- some optional item must be given: one that is there is enough, as C says, and none is refused
-pub required-item : {A B : Type 0} {l : List ℕ} {Y : ℕ → Bool} {i j k : ℕ} {E : A → Type 0} {C : Option A → Type 0} {F : B → Type 0} (f : B → Bool) {p : Reader A} {q : Option A → Reader B} → ((b : B) → F b → f b ≡ true) → ((a : A) → E a → C (some a)) → Item l Y i j E p → ((o : Option A) → TailIf (C o) l k F (q o)) → Fails (verify f (seq (opt p) q)) → Item l Y i (most j k) F (verify f (seq (opt p) q))
+-- one of several optional items must be given: the first is enough, as C says, and the test refuses none at all
+pub required-item : {A B : Type 0} {l : List ℕ} {Y : ℕ → Bool} {i j k : ℕ} {E : A → Type 0} {C : Option A → Type 0} (f : B → Bool) {p : Reader A} {q : Option A → Reader B} → Item l Y i j E p → ((o : Option A) → TailIf (C o) l k (λ b. f b ≡ true) (q o)) → ((a : A) → E a → C (some a)) → Fails (verify f (seq (opt p) q)) → Item l Y i (most j k) (λ b. f b ≡ true) (verify f (seq (opt p) q))
 unfolding verify opt
-required-item {C = C} {F = F} f {p} {q} g given hp hq none-fails = record {
-  lawful = verify-lawful f g (seq-tail (opt-tail-if given hp) hq .lawful);
+required-item {C = C} f {p} {q} hp hq given none-fails = record {
+  lawful = verify-lawful f (λ b e. e) (seq-tail (opt-tail-if hp given) hq .lawful);
   fails = none-fails;
   eager = seq-eager (opt p) q (hp .eager);
-  starts = λ s. ends-verify f (seq (opt p) q) g (ends-then-skips F (opt p) q (λ o. hq o .skips) (ends-opt C p given (hp .starts s)));
+  starts = λ s. ends-verify f (seq (opt p) q) (λ b e. e) (ends-then-skips (λ b. f b ≡ true) (opt p) q (λ o. hq o .skips) (ends-opt C p given (hp .starts s)));
 }

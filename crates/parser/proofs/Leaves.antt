@@ -9,30 +9,27 @@ use lib.ListN.{length, getD, length-append, List·getD-append}
 use lib.Seq.{getD-append-seam}
 use lib.Dec.{ltb, leb, eqb}
 use borrow.Author.Tests.{ltb-true, ltb-false, leb-true, leb-false, lt-ltb, le-leb, eq-eqb, ne-eqb, not-true}
-use Rattle.parser.specs.Reading.{no, got, Reader, lit, alt, failed, map, pick, or, and}
+use Rattle.parser.specs.Reading.{Found, no, got, stop, Reader, lit, seq, then, opt, lack, alt, failed, map, pick, or, and}
 use Rattle.parser.specs.Digits.{isDigit, digitsFrom, digitsMore, lowest, highest, reach, field}
-use Rattle.parser.specs.Fields.{signed}
+use Rattle.parser.specs.Fields.{signed, precededBy}
 use Rattle.parser.proofs.Fields.{true≢false, and-first, and-second, DigitAt, digitsFrom-suc, highest-grows}
-use Rattle.parser.proofs.Stable.{Stable, digit-stays, lit-stable, alt-stable, map-stable}
-use Rattle.parser.proofs.Places.{no≢got, Bounded, Fails, Foreign, lit-fails, lit-bounded, lit-foreign, alt-fails, alt-bounded, alt-foreign, map-fails, map-bounded, map-foreign}
-use Rattle.parser.proofs.Hopeful.{Anything, Hopeful, Starts, Definite, AtEnd, at-end-definite, starts-hopeful, ends-alt, ends-map}
+use Rattle.parser.proofs.Stable.{digit-stays}
+use Rattle.parser.proofs.Places.{no≢got, stop≢got, Foreign, lit-fails, lit-foreign, alt-foreign, map-foreign}
+use Rattle.parser.proofs.Hopeful.{Anything, Hopeful, Starts, Definite, AtEnd, at-end-definite, starts-hopeful}
 
 -- ---- single bytes
 
-abbrev pub Byte : ℕ → ℕ → Type 0
-Byte c b = b ≡ c
-
-pub lit-starts : (F : Unit → Type 0) (c : ℕ) → F tt → Starts 1 (Byte c) F (lit c)
+pub lit-starts : (c : ℕ) → Starts 1 (λ b. eqb b c ≡ true) Anything (lit c)
 unfolding lit
-lit-starts F c f s =
+lit-starts c s =
     let long = lt-ltb (length s) (length (s ++ c ∷ [])) (omega (arith, length-append s (c ∷ []))) in
     record {
       first = c;
       rest = [];
       value = tt;
-      begins = refl;
+      begins = eq-eqb c c refl;
       few = omega arith;
-      fact = f;
+      fact = tt;
       reads = rw (long, getD-append-seam s c [] 0, eq-eqb c c refl, length-append s (c ∷ []));
     }
 
@@ -40,8 +37,8 @@ pub lit-at-end : (c : ℕ) → AtEnd (lit c)
 unfolding lit
 lit-at-end c s at h = ltb-false at (length s) (not-true (ltb at (length s)) h)
 
-pub lit-hopeful : (F : Unit → Type 0) (c : ℕ) → F tt → Hopeful 1 F (lit c)
-lit-hopeful F c f = starts-hopeful (lit c) (lit-at-end c) (lit-starts F c f)
+pub lit-hopeful : (c : ℕ) → Hopeful 1 Anything (lit c)
+lit-hopeful c = starts-hopeful (lit c) (lit-at-end c) (lit-starts c)
 
 pub lit-definite : (c : ℕ) → Definite (lit c)
 lit-definite c = at-end-definite (lit c) (lit-at-end c) (lit-fails c)
@@ -66,23 +63,11 @@ minus = map (λ _. true) (lit 45)
 abbrev plus : Reader Bool
 plus = map (λ _. false) (lit 43)
 
-pub signed-stable : Stable signed
-signed-stable = alt-stable minus plus (map-stable (λ _. true) (lit 45) (lit-stable 45)) (map-stable (λ _. false) (lit 43) (lit-stable 43))
-
-pub signed-bounded : Bounded signed
-signed-bounded = alt-bounded minus plus (map-bounded (λ _. true) (lit 45) (lit-bounded 45)) (map-bounded (λ _. false) (lit 43) (lit-bounded 43))
-
-pub signed-fails : Fails signed
-signed-fails = alt-fails minus plus (map-fails (λ _. true) (lit 45) (lit-fails 45)) (map-fails (λ _. false) (lit 43) (lit-fails 43))
-
 pub signed-at-end : AtEnd signed
 signed-at-end = alt-at-end minus plus (map-at-end (λ _. true) (lit 45) (lit-at-end 45)) (map-at-end (λ _. false) (lit 43) (lit-at-end 43))
 
 pub signed-foreign : (X : ℕ → Type 0) → ((c : ℕ) → X c → eqb c 45 ≡ false) → ((c : ℕ) → X c → eqb c 43 ≡ false) → Foreign X signed
 signed-foreign X k l = alt-foreign X minus plus (map-foreign X (λ _. true) (lit 45) (lit-foreign X 45 k)) (map-foreign X (λ _. false) (lit 43) (lit-foreign X 43 l))
-
-pub signed-starts : Starts 1 (Byte 45) Anything signed
-signed-starts s = ends-alt minus plus (ends-map Anything (λ _. true) (lit 45) (λ a f. tt) (lit-starts Anything 45 tt s))
 
 -- ---- fields: some digits reach every number between the least and the greatest
 
@@ -214,9 +199,6 @@ field-hopeful-in n lo hi lo′ hi′ a b ab k s at le h =
     let e = completed lo hi lo′ hi′ a b ab k n 0 s at le h in
     record { first = e .first; rest = e .rest; value = e .value; begins = tt; few = e .few; fact = e .within; reads = e .reads }
 
-pub field-hopeful : (n lo hi : ℕ) → lo ≤ hi → Hopeful n (From lo hi) (field n lo hi)
-field-hopeful n lo hi h = field-hopeful-in n lo hi lo hi (omega arith) (omega arith) h (λ n v r. r)
-
 pub field-starts : (n lo hi lo′ hi′ : ℕ) → lo ≤ lo′ → hi′ ≤ hi → lo′ ≤ hi′ → reach lo′ hi′ (suc n) 0 ≡ true → Starts (suc n) DigitByte (From lo′ hi′) (field (suc n) lo hi)
 unfolding field
 field-starts n lo hi lo′ hi′ a b ab r s =
@@ -255,6 +237,15 @@ digits-within lo hi (suc n) v s at a m e = go (and (ltb at (length s)) (isDigit 
 pub field-within : (n lo hi : ℕ) (s : List ℕ) (at a m : ℕ) → field n lo hi .reads s at ≡ got a m → From lo hi a
 unfolding field
 field-within n lo hi s at a m e = digits-within lo hi n 0 s at a m e
+
+pub preceded-within : (c n lo hi : ℕ) (s : List ℕ) (at a m : ℕ) → precededBy c (field n lo hi) .reads s at ≡ got a m → From lo hi a
+unfolding seq opt
+preceded-within c n lo hi s at a m e = go (lit c .reads s at) e
+  where
+    go : (f : Found Unit) → then (lack at f) (λ _ k. field n lo hi .reads s k) ≡ got a m → From lo hi a
+    go no e = field-within n lo hi s at a m e
+    go (stop r) e = absurd (stop≢got e)
+    go (got u k) e = field-within n lo hi s k a m e
 
 -- a digit is no other byte
 pub digit-is-not : (c : ℕ) → isDigit c ≡ false → (b : ℕ) → DigitByte b → eqb b c ≡ false

@@ -4,7 +4,6 @@ pub mod Stable
 pub mod Places
 pub mod Hopeful
 pub mod Leaves
-pub mod Preceded
 pub mod RunLeaves
 pub mod Verdict
 pub mod Alike

@@ -176,10 +176,6 @@ pub alt-fails : {A : Type 0} (p q : Reader A) → Fails p → Fails q → Fails 
 unfolding alt
 alt-fails p q hp hq s at h = rw (hp s at h, hq s at h)
 
-pub verify-fails : {A : Type 0} (f : A → Bool) (p : Reader A) → Fails p → Fails (verify f p)
-unfolding verify
-verify-fails f p hp s at h = rw (hp s at h)
-
 pub map-fails : {A B : Type 0} (f : A → B) (p : Reader A) → Fails p → Fails (map f p)
 unfolding map
 map-fails f p hp s at h = rw (hp s at h)

@@ -13,9 +13,8 @@ use Rattle.parser.specs.Reading.{no, got, stop, Reader, seq, pick}
 use Rattle.parser.specs.Digits.{isDigit, digits, number, numberFrom, runAt, ofRun, atTheEnd, limit, run, nanoseconds, fraction}
 use Rattle.parser.proofs.Fields.{and-first, and-second}
 use Rattle.parser.proofs.Runs.{run-end, digits-short}
-use Rattle.parser.proofs.Stable.{run-stable}
-use Rattle.parser.proofs.Places.{run-bounded, run-foreign}
-use Rattle.parser.proofs.Hopeful.{Ends, AnyByte, Anything, Hopeful, Starts, Keeps, foreign-keeps, ends-after, ends-then-starts, ends-weaken, seq-hopeful}
+use Rattle.parser.proofs.Places.{run-foreign}
+use Rattle.parser.proofs.Hopeful.{Ends, AnyByte, Anything, Hopeful, Starts, Keeps, foreign-keeps, ends-after, ends-then-starts, ends-weaken}
 use Rattle.parser.proofs.Leaves.{DigitByte}
 use Rattle.parser.proofs.General.{Eager}
 
@@ -103,6 +102,3 @@ module _ {B : Type 0} {k : ℕ} {F : B → Type 0} (X : ℕ → Type 0) (q : ℕ
       go : (length s ≡ at) ⊎ ((v : ℕ) × (run .reads s at ≡ got v (length s))) → Ends (1 + k) AnyByte F (seq run q) s at
       go (inl here) = rw (← here) (ends-weaken (1 + k) AnyByte F (omega arith) (λ c x. tt) (λ b f. f) (run-then-starts s))
       go (inr (v, e)) = ends-weaken (1 + k) AnyByte F (omega arith) (λ c x. tt) (λ b f. f) (ends-after run q s at le keeps v e (sq v))
-
-  pub run-then-hopeful : ((v : ℕ) → Hopeful (1 + k) F (q v)) → Hopeful (1 + k) F (seq run q)
-  run-then-hopeful hq = seq-hopeful run q run-stable run-bounded run-then-ends hq
