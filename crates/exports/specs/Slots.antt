@@ -54,6 +54,10 @@ verdictSlot Open = pos 1
 abbrev pub noVerdict : ℤ
 noVerdict = negsuc 0
 
+-- a refusal has a record of no kind
+abbrev pub noSlots : ⊥ → List ℤ
+noSlots _ = []
+
 abbrev pub recordSlots : {A : Type 0} → (A → List ℤ) → Option A → List ℤ
 recordSlots slots (some a) = slots a
 recordSlots slots none = []

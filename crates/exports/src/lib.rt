@@ -7,12 +7,13 @@ ghost use lib.IntN.{pos};
 ghost use lib.ListN.{length};
 ghost use lib.Seq.{sets};
 ghost use Rattle.types.specs.Numbers.{numberOf};
+ghost use Rattle.parser.specs.Answer.{recorded, refused};
 ghost use Rattle.offset.specs.Rules.{offset};
 ghost use Rattle.time.specs.Rules.{time};
 ghost use Rattle.date.specs.Rules.{date};
 ghost use Rattle.datetime.specs.Rules.{dateTime};
 ghost use Rattle.duration.specs.Rules.{duration};
-ghost use Rattle.exports.specs.Slots.{verdictSlot, offsetSlots, timeOffsetSlots, timeSlots, dateSlots, dateTimeSlots, durationSlots, BeginsIn, EndsIn};
+ghost use Rattle.exports.specs.Slots.{verdictSlot, offsetSlots, timeOffsetSlots, timeSlots, dateSlots, dateTimeSlots, durationSlots, noSlots, Answered, BeginsIn, EndsIn};
 use date::DateAnswer;
 use datetime::DateTimeAnswer;
 use duration::DurationAnswer;
@@ -52,131 +53,149 @@ fn verdict_slot(verdict: Verdict) -> i64
     }
 }
 
-fn unsigned(n: u32) -> i64
-    ensures { λ r. ⌜ r ≡ pos n ⌝ }
-{
-    n as i64
-}
-
-fn signed(z: i32) -> i64
-    ensures { λ r. ⌜ r ≡ z ⌝ }
-{
-    z as i64
-}
-
-// Two, three and four slots from a place on.
-fn put2(slots: &mut [i64], at: usize, a: i64, b: i64)
-    requires { ⌜ at + 2 ≤ length (now slots) ⌝ }
-    ensures { λ _. ⌜ now (slots .exit) ≡ sets (now (slots .entry)) at (a ∷ b ∷ []) ⌝ }
-{
-    slots[at] = a;
-    slots[at + 1] = b;
-}
-
-fn put3(slots: &mut [i64], at: usize, a: i64, b: i64, c: i64)
-    requires { ⌜ at + 3 ≤ length (now slots) ⌝ }
-    ensures { λ _. ⌜ now (slots .exit) ≡ sets (now (slots .entry)) at (a ∷ b ∷ c ∷ []) ⌝ }
-{
-    slots[at] = a;
-    slots[at + 1] = b;
-    slots[at + 2] = c;
-}
-
-fn put4(slots: &mut [i64], at: usize, a: i64, b: i64, c: i64, d: i64)
-    requires { ⌜ at + 4 ≤ length (now slots) ⌝ }
-    ensures { λ _. ⌜ now (slots .exit) ≡ sets (now (slots .entry)) at (a ∷ b ∷ c ∷ d ∷ []) ⌝ }
-{
-    slots[at] = a;
-    slots[at + 1] = b;
-    slots[at + 2] = c;
-    slots[at + 3] = d;
-}
-
-// The slots that every answer fills.
-fn put_head(slots: &mut [i64], count: usize, verdict: i64)
+// Each of these fills the slots of an answer and returns its number.
+fn put_refusal(slots: &mut [i64], count: usize, verdict: i64, why: Refusal) -> u32
     requires { ⌜ (2 ≤ length (now slots)) × (count < 2 ^ 63) ⌝ }
-    ensures { λ _. ⌜ now (slots .exit) ≡ sets (now (slots .entry)) 0 (pos count ∷ verdict ∷ []) ⌝ }
+    ensures { λ r. ⌜ Answered noSlots verdict (refused (numberOf why) count) (now (slots .entry)) (now (slots .exit)) r ⌝ }
 {
-    put2(slots, 0, count as i64, verdict);
+    slots[0] = count as i64;
+    slots[1] = verdict;
+    number(why)
 }
 
-fn put_offset(slots: &mut [i64], o: Offset)
-    requires { ⌜ 4 ≤ length (now slots) ⌝ }
-    ensures { λ _. ⌜ now (slots .exit) ≡ sets (now (slots .entry)) 2 (offsetSlots o) ⌝ }
+fn put_offset(slots: &mut [i64], count: usize, verdict: i64, o: Offset) -> u32
+    requires { ⌜ (4 ≤ length (now slots)) × (count < 2 ^ 63) ⌝ }
+    ensures { λ r. ⌜ Answered offsetSlots verdict (recorded o count) (now (slots .entry)) (now (slots .exit)) r ⌝ }
 {
-    put2(slots, 2, signed(o.hours), signed(o.minutes));
+    slots[0] = count as i64;
+    slots[1] = verdict;
+    slots[2] = o.hours as i64;
+    slots[3] = o.minutes as i64;
+    0
 }
 
-fn put_time_offset(slots: &mut [i64], at: usize, o: TimeOffset)
-    requires { ⌜ at + 3 ≤ length (now slots) ⌝ }
-    ensures { λ _. ⌜ now (slots .exit) ≡ sets (now (slots .entry)) at (timeOffsetSlots o) ⌝ }
+// A time's offset in its three slots: whether one is given, and the offset.
+struct Shift {
+    given: u32,
+    hours: i32,
+    minutes: i32,
+}
+
+fn shift_of(o: TimeOffset) -> Shift
+    ensures { λ r. ⌜ timeOffsetSlots o ≡ pos (r .given) ∷ r .hours ∷ r .minutes ∷ [] ⌝ }
 {
     match o {
-        TimeOffset::Absent => put3(slots, at, 0, 0, 0),
-        TimeOffset::Given(given) => put3(slots, at, 1, signed(given.hours), signed(given.minutes)),
+        TimeOffset::Absent => Shift {
+            given: 0,
+            hours: 0,
+            minutes: 0,
+        },
+        TimeOffset::Given(given) => Shift {
+            given: 1,
+            hours: given.hours,
+            minutes: given.minutes,
+        },
     }
 }
 
-fn put_time(slots: &mut [i64], at: usize, t: Time)
+// A time's seven slots, from a place on.
+fn put_time_from(slots: &mut [i64], at: usize, t: Time)
     requires { ⌜ at + 7 ≤ length (now slots) ⌝ }
     ensures { λ _. ⌜ now (slots .exit) ≡ sets (now (slots .entry)) at (timeSlots t) ⌝ }
 {
     let o = t.offset;
-    put4(
-        slots,
-        at,
-        unsigned(t.hour),
-        unsigned(t.minute),
-        unsigned(t.second),
-        unsigned(t.nanosecond),
-    );
-    put_time_offset(slots, at + 4, o);
+    let shift = shift_of(o);
+    slots[at] = t.hour as i64;
+    slots[at + 1] = t.minute as i64;
+    slots[at + 2] = t.second as i64;
+    slots[at + 3] = t.nanosecond as i64;
+    slots[at + 4] = shift.given as i64;
+    slots[at + 5] = shift.hours as i64;
+    slots[at + 6] = shift.minutes as i64;
 }
 
-fn put_date(slots: &mut [i64], d: Date)
-    requires { ⌜ 6 ≤ length (now slots) ⌝ }
-    ensures { λ _. ⌜ now (slots .exit) ≡ sets (now (slots .entry)) 2 (dateSlots d) ⌝ }
+fn put_time(slots: &mut [i64], count: usize, verdict: i64, t: Time) -> u32
+    requires { ⌜ (9 ≤ length (now slots)) × (count < 2 ^ 63) ⌝ }
+    ensures { λ r. ⌜ Answered timeSlots verdict (recorded t count) (now (slots .entry)) (now (slots .exit)) r ⌝ }
+{
+    slots[0] = count as i64;
+    slots[1] = verdict;
+    put_time_from(slots, 2, t);
+    0
+}
+
+// A date's four slots: the form's number, the year, the month or week, the day.
+struct Day {
+    form: u32,
+    year: i32,
+    part: u32,
+    day: u32,
+}
+
+fn day_of(d: Date) -> Day
+    ensures { λ r. ⌜ dateSlots d ≡ pos (r .form) ∷ r .year ∷ pos (r .part) ∷ pos (r .day) ∷ [] ⌝ }
 {
     match d {
-        Date::YMD { year, month, day } => {
-            put4(slots, 2, 0, signed(year), unsigned(month), unsigned(day))
-        }
-        Date::Week { year, week, day } => {
-            put4(slots, 2, 1, signed(year), unsigned(week), unsigned(day))
-        }
-        Date::Ordinal { year, day } => put4(slots, 2, 2, signed(year), 0, unsigned(day)),
+        Date::YMD { year, month, day } => Day {
+            form: 0,
+            year,
+            part: month,
+            day,
+        },
+        Date::Week { year, week, day } => Day {
+            form: 1,
+            year,
+            part: week,
+            day,
+        },
+        Date::Ordinal { year, day } => Day {
+            form: 2,
+            year,
+            part: 0,
+            day,
+        },
     }
 }
 
-fn put_datetime(slots: &mut [i64], x: DateTime)
-    requires { ⌜ 13 ≤ length (now slots) ⌝ }
-    ensures { λ _. ⌜ now (slots .exit) ≡ sets (now (slots .entry)) 2 (dateTimeSlots x) ⌝ }
+fn put_date(slots: &mut [i64], count: usize, verdict: i64, d: Date) -> u32
+    requires { ⌜ (6 ≤ length (now slots)) × (count < 2 ^ 63) ⌝ }
+    ensures { λ r. ⌜ Answered dateSlots verdict (recorded d count) (now (slots .entry)) (now (slots .exit)) r ⌝ }
+{
+    let day = day_of(d);
+    slots[0] = count as i64;
+    slots[1] = verdict;
+    slots[2] = day.form as i64;
+    slots[3] = day.year as i64;
+    slots[4] = day.part as i64;
+    slots[5] = day.day as i64;
+    0
+}
+
+fn put_datetime(slots: &mut [i64], count: usize, verdict: i64, x: DateTime) -> u32
+    requires { ⌜ (13 ≤ length (now slots)) × (count < 2 ^ 63) ⌝ }
+    ensures { λ r. ⌜ Answered dateTimeSlots verdict (recorded x count) (now (slots .entry)) (now (slots .exit)) r ⌝ }
 {
     let d = x.date;
     let t = x.time;
-    put_date(slots, d);
-    put_time(slots, 6, t);
+    put_date(slots, count, verdict, d);
+    put_time_from(slots, 6, t);
+    0
 }
 
-fn put_duration(slots: &mut [i64], d: Duration)
-    requires { ⌜ 9 ≤ length (now slots) ⌝ }
-    ensures { λ _. ⌜ now (slots .exit) ≡ sets (now (slots .entry)) 2 (durationSlots d) ⌝ }
+fn put_duration(slots: &mut [i64], count: usize, verdict: i64, d: Duration) -> u32
+    requires { ⌜ (9 ≤ length (now slots)) × (count < 2 ^ 63) ⌝ }
+    ensures { λ r. ⌜ Answered durationSlots verdict (recorded d count) (now (slots .entry)) (now (slots .exit)) r ⌝ }
 {
-    put4(
-        slots,
-        2,
-        unsigned(d.years),
-        unsigned(d.months),
-        unsigned(d.weeks),
-        unsigned(d.days),
-    );
-    put3(
-        slots,
-        6,
-        unsigned(d.hours),
-        unsigned(d.minutes),
-        unsigned(d.seconds),
-    );
+    slots[0] = count as i64;
+    slots[1] = verdict;
+    slots[2] = d.years as i64;
+    slots[3] = d.months as i64;
+    slots[4] = d.weeks as i64;
+    slots[5] = d.days as i64;
+    slots[6] = d.hours as i64;
+    slots[7] = d.minutes as i64;
+    slots[8] = d.seconds as i64;
+    0
 }
 
 // Reads the offset that the bytes begin with.
@@ -192,15 +211,8 @@ pub extern "C" fn tirozhbar_offset(s: &[u8], slots: &mut [i64]) -> u32
     let verdict = verdict_slot(judged);
     let answer = read.answer;
     match answer {
-        OffsetAnswer::Record { value, count } => {
-            put_head(slots, count, verdict);
-            put_offset(slots, value);
-            0
-        }
-        OffsetAnswer::Refused { why, count } => {
-            put_head(slots, count, verdict);
-            number(why)
-        }
+        OffsetAnswer::Record { value, count } => put_offset(slots, count, verdict, value),
+        OffsetAnswer::Refused { why, count } => put_refusal(slots, count, verdict, why),
     }
 }
 
@@ -214,15 +226,8 @@ pub extern "C" fn tirozhbar_parse_offset(s: &[u8], slots: &mut [i64]) -> u32
     }
     let answer = offset::parse_offset(s);
     match answer {
-        OffsetAnswer::Record { value, count } => {
-            put_head(slots, count, NO_VERDICT);
-            put_offset(slots, value);
-            0
-        }
-        OffsetAnswer::Refused { why, count } => {
-            put_head(slots, count, NO_VERDICT);
-            number(why)
-        }
+        OffsetAnswer::Record { value, count } => put_offset(slots, count, NO_VERDICT, value),
+        OffsetAnswer::Refused { why, count } => put_refusal(slots, count, NO_VERDICT, why),
     }
 }
 
@@ -239,15 +244,8 @@ pub extern "C" fn tirozhbar_time(s: &[u8], slots: &mut [i64]) -> u32
     let verdict = verdict_slot(judged);
     let answer = read.answer;
     match answer {
-        TimeAnswer::Record { value, count } => {
-            put_head(slots, count, verdict);
-            put_time(slots, 2, value);
-            0
-        }
-        TimeAnswer::Refused { why, count } => {
-            put_head(slots, count, verdict);
-            number(why)
-        }
+        TimeAnswer::Record { value, count } => put_time(slots, count, verdict, value),
+        TimeAnswer::Refused { why, count } => put_refusal(slots, count, verdict, why),
     }
 }
 
@@ -261,15 +259,8 @@ pub extern "C" fn tirozhbar_parse_time(s: &[u8], slots: &mut [i64]) -> u32
     }
     let answer = time::parse_time(s);
     match answer {
-        TimeAnswer::Record { value, count } => {
-            put_head(slots, count, NO_VERDICT);
-            put_time(slots, 2, value);
-            0
-        }
-        TimeAnswer::Refused { why, count } => {
-            put_head(slots, count, NO_VERDICT);
-            number(why)
-        }
+        TimeAnswer::Record { value, count } => put_time(slots, count, NO_VERDICT, value),
+        TimeAnswer::Refused { why, count } => put_refusal(slots, count, NO_VERDICT, why),
     }
 }
 
@@ -286,15 +277,8 @@ pub extern "C" fn tirozhbar_date(s: &[u8], slots: &mut [i64]) -> u32
     let verdict = verdict_slot(judged);
     let answer = read.answer;
     match answer {
-        DateAnswer::Record { value, count } => {
-            put_head(slots, count, verdict);
-            put_date(slots, value);
-            0
-        }
-        DateAnswer::Refused { why, count } => {
-            put_head(slots, count, verdict);
-            number(why)
-        }
+        DateAnswer::Record { value, count } => put_date(slots, count, verdict, value),
+        DateAnswer::Refused { why, count } => put_refusal(slots, count, verdict, why),
     }
 }
 
@@ -308,15 +292,8 @@ pub extern "C" fn tirozhbar_parse_date(s: &[u8], slots: &mut [i64]) -> u32
     }
     let answer = date::parse_date(s);
     match answer {
-        DateAnswer::Record { value, count } => {
-            put_head(slots, count, NO_VERDICT);
-            put_date(slots, value);
-            0
-        }
-        DateAnswer::Refused { why, count } => {
-            put_head(slots, count, NO_VERDICT);
-            number(why)
-        }
+        DateAnswer::Record { value, count } => put_date(slots, count, NO_VERDICT, value),
+        DateAnswer::Refused { why, count } => put_refusal(slots, count, NO_VERDICT, why),
     }
 }
 
@@ -333,15 +310,8 @@ pub extern "C" fn tirozhbar_datetime(s: &[u8], slots: &mut [i64]) -> u32
     let verdict = verdict_slot(judged);
     let answer = read.answer;
     match answer {
-        DateTimeAnswer::Record { value, count } => {
-            put_head(slots, count, verdict);
-            put_datetime(slots, value);
-            0
-        }
-        DateTimeAnswer::Refused { why, count } => {
-            put_head(slots, count, verdict);
-            number(why)
-        }
+        DateTimeAnswer::Record { value, count } => put_datetime(slots, count, verdict, value),
+        DateTimeAnswer::Refused { why, count } => put_refusal(slots, count, verdict, why),
     }
 }
 
@@ -355,15 +325,8 @@ pub extern "C" fn tirozhbar_parse_datetime(s: &[u8], slots: &mut [i64]) -> u32
     }
     let answer = datetime::parse_datetime(s);
     match answer {
-        DateTimeAnswer::Record { value, count } => {
-            put_head(slots, count, NO_VERDICT);
-            put_datetime(slots, value);
-            0
-        }
-        DateTimeAnswer::Refused { why, count } => {
-            put_head(slots, count, NO_VERDICT);
-            number(why)
-        }
+        DateTimeAnswer::Record { value, count } => put_datetime(slots, count, NO_VERDICT, value),
+        DateTimeAnswer::Refused { why, count } => put_refusal(slots, count, NO_VERDICT, why),
     }
 }
 
@@ -380,15 +343,8 @@ pub extern "C" fn tirozhbar_duration(s: &[u8], slots: &mut [i64]) -> u32
     let verdict = verdict_slot(judged);
     let answer = read.answer;
     match answer {
-        DurationAnswer::Record { value, count } => {
-            put_head(slots, count, verdict);
-            put_duration(slots, value);
-            0
-        }
-        DurationAnswer::Refused { why, count } => {
-            put_head(slots, count, verdict);
-            number(why)
-        }
+        DurationAnswer::Record { value, count } => put_duration(slots, count, verdict, value),
+        DurationAnswer::Refused { why, count } => put_refusal(slots, count, verdict, why),
     }
 }
 
@@ -402,14 +358,7 @@ pub extern "C" fn tirozhbar_parse_duration(s: &[u8], slots: &mut [i64]) -> u32
     }
     let answer = duration::parse_duration(s);
     match answer {
-        DurationAnswer::Record { value, count } => {
-            put_head(slots, count, NO_VERDICT);
-            put_duration(slots, value);
-            0
-        }
-        DurationAnswer::Refused { why, count } => {
-            put_head(slots, count, NO_VERDICT);
-            number(why)
-        }
+        DurationAnswer::Record { value, count } => put_duration(slots, count, NO_VERDICT, value),
+        DurationAnswer::Refused { why, count } => put_refusal(slots, count, NO_VERDICT, why),
     }
 }

@@ -1,27 +1,36 @@
 -- The time's run goes on where the date's ends.
-use Rattle.exports.proofs.Laws.{date-length}
-use Rattle.exports.proofs.Stores.{sets-append}
-use Rattle.exports.specs.Slots.{dateSlots, timeSlots}
-use mathlib.Core.Path.{sym, _∙_}
+use Prim.Native.Nat.{ℕ, _≤_}
+use mathlib.Core.List.{List, _∷_}
+use mathlib.Core.Path.{_≡_, refl, sym, ap, _∙_}
+use native.Mathlib.Omega.{arith}
+use lib.IntN.{ℤ, pos}
+use lib.ListN.{length}
+use lib.Seq.{sets}
+use mir.Syntax.{w64}
+use mir.Val.{SFits, toZ, ofZ}
+use mir.Facts.{toZ-ofZ}
 use borrow.Author.Needs.{needs}
+use Rattle.types.specs.declared.DateTime.{DateTime}
+use Rattle.parser.specs.Answer.{recorded}
+use Rattle.exports.specs.Slots.{dateSlots, timeSlots, dateTimeSlots, over, Answered}
+use Rattle.exports.proofs.Stores.{over-more}
+use Rattle.exports.proofs.Laws.{date-length, time-length}
 use Rattle.exports.proofs.put_datetime.Statement.{statement}
 use Rattle.exports.proofs.put_datetime.Tie as tie
 
-put-date-requires : tie.Need-put-date-requires
-put-date-requires c κs = search needs
-
-put-time-requires : tie.Need-put-time-requires
-put-time-requires c κs = search needs
-
-same-length : tie.Need-same-length
-same-length c = search needs
-
-returns : tie.Need-returns
-returns c =
-    let a = c .before .before .before .before .before .before .before .args in
-    c .before .put-time .ensures
-    ∙ rw (c .before .before .before .before .put-date .ensures)
-    (sym (sets-append (a .slots .now) 2 (dateSlots (a .x .date)) (timeSlots (a .x .time)) ∙ rw (date-length (a .x .date))))
+both : {v : ℤ} {m q : ℕ} {x : DateTime} {before mid after : List ℤ} → SFits w64 v → 13 ≤ length before → Answered dateSlots (toZ w64 (ofZ w64 v)) (recorded (x .date) m) before mid q → after ≡ sets mid 6 (timeSlots (x .time)) → Answered dateTimeSlots v (recorded x m) before after 0
+both {v} {m} {x = x} {before} {mid} fits h d t =
+    let first = pos m ∷ v ∷ dateSlots (x .date) in
+    let then = timeSlots (x .time) in
+    let six : length first ≡ 6 = omega (arith, date-length (x .date)) in
+    let e : mid ≡ over first before = rw (toZ-ofZ fits) at (d .filled) in
+    record { number = refl; filled = t ∙ ap (λ (l : List ℤ). sets l 6 then) e ∙ ap (λ (k : ℕ). sets (over first before) k then) (sym six) ∙ over-more first then before (omega (arith, six, time-length (x .time))) }
 
 pub put-datetime-spec : {M : Type 1} → statement M
-put-datetime-spec = tie.close (tie.spec put-date-requires put-time-requires same-length returns)
+put-datetime-spec =
+    tie.close
+    (tie.spec
+    (λ c κs. search needs)
+    (λ c κs. search needs)
+    (λ c. search needs)
+    (λ c. both (search needs) (omega arith) (c .before .before .before .before .put-date .ensures) (c .before .put-time-from .ensures)))

@@ -1,69 +1,25 @@
--- What the reader promises is what the slots hold: the count is within the input, and each store is a slot of the answer.
-use Rattle.exports.proofs.Laws.{ends-few, ends-record, ends-refusal, ended-count}
-use Rattle.exports.specs.Slots.{durationSlots}
+-- What the reader promises is what the slots hold.
+use mathlib.Core.Path.{ap}
+use native.Mathlib.Omega.{arith}
+use borrow.Author.Needs.{needs}
+use Rattle.duration.specs.Answer.{durationTold}
 use Rattle.duration.proofs.Laws.{duration-bounded}
 use Rattle.duration.specs.Rules.{duration}
-use native.Mathlib.Omega.{arith}
-use mathlib.Core.Path.{refl}
-use borrow.Author.Needs.{needs}
+use Rattle.exports.proofs.Laws.{ended-count, ends-few, ends, refusal}
 use Rattle.exports.proofs.tirozhbar_parse_duration.Statement.{statement}
 use Rattle.exports.proofs.tirozhbar_parse_duration.Tie as tie
-
-returns : tie.Need-returns
-returns c =
-    let a = c .before .before .args in
-    ends-few 9 3 duration durationSlots (a .s .now) (a .slots .now) (c .if1 .taken)
-
-parse-duration-requires : tie.Need-parse-duration-requires
-parse-duration-requires c κs = search needs
-
-enum-known-answer : tie.Need-enum-known-answer
-enum-known-answer c = search needs
-
-put-head-requires : tie.Need-put-head-requires
-put-head-requires c κs = (omega arith, omega (arith, ended-count duration duration-bounded (c .before .before .before .before .before .before .before .args .s .now) _ (rw (c .before .before .answer .given .1) at (c .before .before .before .before .parse-duration .ensures))))
-
-put-duration-requires : tie.Need-put-duration-requires
-put-duration-requires c κs = search needs
-
-enum-known-answer-2 : tie.Need-enum-known-answer-2
-enum-known-answer-2 c = search needs
-
-put-head-requires-2 : tie.Need-put-head-requires-2
-put-head-requires-2 c κs = (omega arith, omega (arith, ended-count duration duration-bounded (c .before .before .before .before .before .before .before .args .s .now) _ (rw (c .before .before .answer2 .given .1) at (c .before .before .before .before .parse-duration .ensures))))
-
-number-requires : tie.Need-number-requires
-number-requires c κs = search needs
-
-same-length : tie.Need-same-length
-same-length c = search needs
-
-returns-2 : tie.Need-returns-2
-returns-2 c =
-    let a = c .before .before .before .before .before .before .before .before .before .before .before .before .args in
-    ends-record 9 3 duration durationSlots (a .s .now) (a .slots .now) _ _ _ _ (c .before .before .before .before .before .before .before .before .before .before .if1 .left) (refl) (rw (c .before .before .before .before .before .before .before .answer .given .1) at (c .before .before .before .before .before .before .before .before .before .parse-duration .ensures)) (c .before .before .before .before .put-head .ensures) (c .before .put-duration .ensures)
-
-same-length-2 : tie.Need-same-length-2
-same-length-2 c = search needs
-
-returns-3 : tie.Need-returns-3
-returns-3 c =
-    let a = c .before .before .before .before .before .before .before .before .before .before .args in
-    ends-refusal 9 3 duration durationSlots (a .s .now) (a .slots .now) _ _ _ _ (omega arith) (c .before .before .before .before .before .before .before .before .if1 .left) (rw (c .before .before .before .before .before .answer2 .given .1) at (c .before .before .before .before .before .before .before .parse-duration .ensures)) (c .before .before .put-head2 .ensures) (c .number .ensures)
 
 pub tirozhbar-parse-duration-spec : {M : Type 1} → statement M
 tirozhbar-parse-duration-spec =
     tie.close
     (tie.spec
-    returns
-    parse-duration-requires
-    enum-known-answer
-    put-head-requires
-    put-duration-requires
-    enum-known-answer-2
-    put-head-requires-2
-    number-requires
-    same-length
-    returns-2
-    same-length-2
-    returns-3)
+    (λ c. ends-few (c .if1 .taken))
+    (λ c κs. search needs)
+    (λ c. search needs)
+    (λ c κs. (omega arith, omega (arith, ended-count duration (c .before .before .before .before .before .before .before .args .s .now) duration-bounded (c .before .before .before .before .parse-duration .ensures) (ap durationTold (c .before .before .answer .given .1)))))
+    (λ c. search needs)
+    (λ c κs. (omega arith, omega (arith, ended-count duration (c .before .before .before .before .before .before .before .args .s .now) duration-bounded (c .before .before .before .before .parse-duration .ensures) (ap durationTold (c .before .before .answer2 .given .1)))))
+    (λ c. search needs)
+    (λ c. ends (c .before .before .before .before .before .before .before .if1 .left) (c .before .before .before .before .before .before .parse-duration .ensures) (ap durationTold (c .before .before .before .before .answer .given .1)) (c .before .put-duration .ensures))
+    (λ c. search needs)
+    (λ c. ends (c .before .before .before .before .before .before .before .if1 .left) (c .before .before .before .before .before .before .parse-duration .ensures) (ap durationTold (c .before .before .before .before .answer2 .given .1)) (refusal (c .before .put-refusal .ensures))))

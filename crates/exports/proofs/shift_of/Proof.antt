@@ -1,0 +1,16 @@
+-- Absent or given, the three numbers are those of the case.
+use mathlib.Core.Path.{refl, sym}
+use mir.Facts.{toZ-ofZ}
+use borrow.Author.Needs.{needs}
+use Rattle.exports.proofs.Stores.{_then_}
+use Rattle.exports.proofs.shift_of.Statement.{statement}
+use Rattle.exports.proofs.shift_of.Tie as tie
+
+pub shift-of-spec : {M : Type 1} → statement M
+shift-of-spec =
+    tie.close
+    (tie.spec
+    (λ c. search needs)
+    (λ c. search needs)
+    (λ c. rw (c .enum-told .given .1))
+    (λ c. rw (c .before .before .o .given .1) (sym (refl then toZ-ofZ (search needs) then toZ-ofZ (search needs) then refl))))
