@@ -1,11 +1,11 @@
 -- From what a reader promises to what its function does: the count fits a slot, and what is stored is what the answer says.
-use Prim.Native.Nat.{ℕ, suc, _≤_, _<_}
+use Prim.Native.Nat.{ℕ, suc, _+_, _≤_, _<_}
 use mathlib.Core.Bool.{Bool, true, false}
-use mathlib.Core.List.{List}
+use mathlib.Core.List.{List, [], _∷_}
 use mathlib.Core.Path.{_≡_, refl, ap, _∙_}
 use native.Mathlib.Omega.{arith}
 use lib.Dec.{ltb}
-use lib.IntN.{ℤ}
+use lib.IntN.{ℤ, pos}
 use lib.ListN.{length}
 use lib.Seq.{sets}
 use mir.Syntax.{w64}
@@ -64,6 +64,11 @@ ended-count {A} p s bounded w i = rw (← i, w) (go (p .reads s 0) refl)
 -- what was written from the first slot on is the answer's
 pub answered : {A : Type 0} {f : A → List ℤ} {v : ℤ} {told : Told A} {before after xs : List ℤ} {r : ℕ} → xs ≡ answerSlots f v told → after ≡ sets before 0 xs → length xs ≤ length before → r ≡ told .number → Answered f v told before after r
 answered {before = before} {xs = xs} e i fits j = record { number = j; filled = i ∙ sets-over xs before fits ∙ ap (λ (l : List ℤ). over l before) e }
+
+-- the count and the verdict, and behind them the record
+pub headed : {A : Type 0} {f : A → List ℤ} {v : ℤ} {a : A} {m : ℕ} {before mid after : List ℤ} → SFits w64 v → 2 + length (f a) ≤ length before → mid ≡ sets before 0 (pos m ∷ toZ w64 (ofZ w64 v) ∷ []) → after ≡ sets mid 2 (f a) → Answered f v (recorded a m) before after 0
+headed {f = f} {v = v} {a = a} {m = m} {before = before} fits h i j =
+    record { number = refl; filled = j ∙ rw (i, toZ-ofZ fits) (sets-over (pos m ∷ v ∷ f a) before (omega arith)) }
 
 -- a refusal is one of any kind
 pub refusal : {A : Type 0} {f : A → List ℤ} {v : ℤ} {q m : ℕ} {before after : List ℤ} {r : ℕ} → Answered noSlots v (refused q m) before after r → Answered f v (refused q m) before after r

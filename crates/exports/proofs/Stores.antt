@@ -33,25 +33,31 @@ _then_ {y = y} {xs = xs} e es = ap (λ (z : ℤ). z ∷ xs) e ∙ ap (λ (zs : L
 pub by : {xs ys zs : List ℤ} → zs ≡ ys → xs ≡ ys → xs ≡ zs
 by e i = i ∙ sym e
 
--- seven from a place on, as the code counts them
-pub seven : (l : List ℤ) (i : ℕ) (ys : List ℤ) {a b c d e f g : ℤ} → a ∷ b ∷ c ∷ d ∷ e ∷ f ∷ g ∷ [] ≡ ys → set (set (set (set (set (set (set l i a) (i + 1) b) (i + 2) c) (i + 3) d) (i + 4) e) (i + 5) f) (i + 6) g ≡ sets l i ys
-seven l i ys h =
+-- three and four from a place on, as the code counts them
+pub three : (l : List ℤ) (i : ℕ) {a b c x y z : ℤ} → a ≡ x → b ≡ y → c ≡ z → set (set (set l i a) (i + 1) b) (i + 2) c ≡ sets l i (x ∷ y ∷ z ∷ [])
+three l i p q r =
+    let e₁ : i + 1 ≡ suc i = omega arith in
+    let e₂ : i + 2 ≡ suc (suc i) = omega arith in
+    rw (p, q, r, e₁, e₂)
+
+pub four : (l : List ℤ) (i : ℕ) {a b c d x y z w : ℤ} → a ≡ x → b ≡ y → c ≡ z → d ≡ w → set (set (set (set l i a) (i + 1) b) (i + 2) c) (i + 3) d ≡ sets l i (x ∷ y ∷ z ∷ w ∷ [])
+four l i p q r s =
     let e₁ : i + 1 ≡ suc i = omega arith in
     let e₂ : i + 2 ≡ suc (suc i) = omega arith in
     let e₃ : i + 3 ≡ suc (suc (suc i)) = omega arith in
-    let e₄ : i + 4 ≡ suc (suc (suc (suc i))) = omega arith in
-    let e₅ : i + 5 ≡ suc (suc (suc (suc (suc i)))) = omega arith in
-    let e₆ : i + 6 ≡ suc (suc (suc (suc (suc (suc i))))) = omega arith in
-    rw (← h, e₁, e₂, e₃, e₄, e₅, e₆)
+    rw (p, q, r, s, e₁, e₂, e₃)
 
 pub sets-append : (l : List ℤ) (i : ℕ) (xs ys : List ℤ) → sets l i (xs ++ ys) ≡ sets (sets l i xs) (i + length xs) ys
 sets-append l i [] ys = ap (λ (k : ℕ). sets l k ys) (omega arith)
 sets-append l i (x ∷ xs) ys = sets-append (set l i x) (suc i) xs ys ∙ ap (λ (k : ℕ). sets (sets (set l i x) (suc i) xs) k ys) (omega arith)
 
+-- a run goes on where another ended
+pub goes-on : (l : List ℤ) (i : ℕ) (xs ys : List ℤ) {zs mid after : List ℤ} → zs ≡ ys → mid ≡ sets l i xs → after ≡ sets mid (i + length xs) zs → after ≡ sets l i (xs ++ ys)
+goes-on l i xs ys e j k = k ∙ rw (j, e) (sym (sets-append l i xs ys))
+
 pub sets-over : (new old : List ℤ) → length new ≤ length old → sets old 0 new ≡ over new old
 sets-over new old h = let e : 0 + length new ≡ length new = omega arith in sets-eq new old 0 (omega arith) ∙ rw e
 
--- a run goes on where another ended
 pub over-more : (xs ys old : List ℤ) → length xs + length ys ≤ length old → sets (over xs old) (length xs) ys ≡ over (xs ++ ys) old
 over-more xs ys old h =
     let e : 0 + length xs ≡ length xs = omega arith in

@@ -53,6 +53,34 @@ fn verdict_slot(verdict: Verdict) -> i64
     }
 }
 
+// The two slots that every answer has, and four and three from a place on.
+fn put_head(slots: &mut [i64], count: usize, verdict: i64)
+    requires { ⌜ (2 ≤ length (now slots)) × (count < 2 ^ 63) ⌝ }
+    ensures { λ _. ⌜ now (slots .exit) ≡ sets (now (slots .entry)) 0 (pos count ∷ verdict ∷ []) ⌝ }
+{
+    slots[0] = count as i64;
+    slots[1] = verdict;
+}
+
+fn put_four(slots: &mut [i64], at: usize, a: u32, b: u32, c: u32, d: u32)
+    requires { ⌜ at + 4 ≤ length (now slots) ⌝ }
+    ensures { λ _. ⌜ now (slots .exit) ≡ sets (now (slots .entry)) at (pos a ∷ pos b ∷ pos c ∷ pos d ∷ []) ⌝ }
+{
+    slots[at] = a as i64;
+    slots[at + 1] = b as i64;
+    slots[at + 2] = c as i64;
+    slots[at + 3] = d as i64;
+}
+
+fn put_three(slots: &mut [i64], at: usize, a: i64, b: i64, c: i64)
+    requires { ⌜ at + 3 ≤ length (now slots) ⌝ }
+    ensures { λ _. ⌜ now (slots .exit) ≡ sets (now (slots .entry)) at (a ∷ b ∷ c ∷ []) ⌝ }
+{
+    slots[at] = a;
+    slots[at + 1] = b;
+    slots[at + 2] = c;
+}
+
 // Each of these fills the slots of an answer and returns its number.
 fn put_refusal(slots: &mut [i64], count: usize, verdict: i64, why: Refusal) -> u32
     requires { ⌜ (2 ≤ length (now slots)) × (count < 2 ^ 63) ⌝ }
@@ -76,13 +104,13 @@ fn put_offset(slots: &mut [i64], count: usize, verdict: i64, o: Offset) -> u32
 
 // A time's offset in its three slots: whether one is given, and the offset.
 struct Shift {
-    given: u32,
-    hours: i32,
-    minutes: i32,
+    given: i64,
+    hours: i64,
+    minutes: i64,
 }
 
 fn shift_of(o: TimeOffset) -> Shift
-    ensures { λ r. ⌜ timeOffsetSlots o ≡ pos (r .given) ∷ r .hours ∷ r .minutes ∷ [] ⌝ }
+    ensures { λ r. ⌜ timeOffsetSlots o ≡ r .given ∷ r .hours ∷ r .minutes ∷ [] ⌝ }
 {
     match o {
         TimeOffset::Absent => Shift {
@@ -92,8 +120,8 @@ fn shift_of(o: TimeOffset) -> Shift
         },
         TimeOffset::Given(given) => Shift {
             given: 1,
-            hours: given.hours,
-            minutes: given.minutes,
+            hours: given.hours as i64,
+            minutes: given.minutes as i64,
         },
     }
 }
@@ -105,21 +133,15 @@ fn put_time_from(slots: &mut [i64], at: usize, t: Time)
 {
     let o = t.offset;
     let shift = shift_of(o);
-    slots[at] = t.hour as i64;
-    slots[at + 1] = t.minute as i64;
-    slots[at + 2] = t.second as i64;
-    slots[at + 3] = t.nanosecond as i64;
-    slots[at + 4] = shift.given as i64;
-    slots[at + 5] = shift.hours as i64;
-    slots[at + 6] = shift.minutes as i64;
+    put_four(slots, at, t.hour, t.minute, t.second, t.nanosecond);
+    put_three(slots, at + 4, shift.given, shift.hours, shift.minutes);
 }
 
 fn put_time(slots: &mut [i64], count: usize, verdict: i64, t: Time) -> u32
     requires { ⌜ (9 ≤ length (now slots)) × (count < 2 ^ 63) ⌝ }
     ensures { λ r. ⌜ Answered timeSlots verdict (recorded t count) (now (slots .entry)) (now (slots .exit)) r ⌝ }
 {
-    slots[0] = count as i64;
-    slots[1] = verdict;
+    put_head(slots, count, verdict);
     put_time_from(slots, 2, t);
     0
 }
@@ -186,15 +208,9 @@ fn put_duration(slots: &mut [i64], count: usize, verdict: i64, d: Duration) -> u
     requires { ⌜ (9 ≤ length (now slots)) × (count < 2 ^ 63) ⌝ }
     ensures { λ r. ⌜ Answered durationSlots verdict (recorded d count) (now (slots .entry)) (now (slots .exit)) r ⌝ }
 {
-    slots[0] = count as i64;
-    slots[1] = verdict;
-    slots[2] = d.years as i64;
-    slots[3] = d.months as i64;
-    slots[4] = d.weeks as i64;
-    slots[5] = d.days as i64;
-    slots[6] = d.hours as i64;
-    slots[7] = d.minutes as i64;
-    slots[8] = d.seconds as i64;
+    put_head(slots, count, verdict);
+    put_four(slots, 2, d.years, d.months, d.weeks, d.days);
+    put_three(slots, 6, d.hours as i64, d.minutes as i64, d.seconds as i64);
     0
 }
 

@@ -1,12 +1,11 @@
--- The duration's seven numbers stand behind the count and the verdict.
+-- The duration's seven numbers are a run of four and one of three.
+use mathlib.Core.List.{[], _∷_}
 use mathlib.Core.Path.{refl}
 use native.Mathlib.Omega.{arith}
-use lib.ListN.{length-set}
-use mir.Syntax.{w64}
-use mir.Facts.{toZ-ofZ, toZ-pos}
+use lib.IntN.{pos}
 use borrow.Author.Needs.{needs}
-use Rattle.exports.proofs.Stores.{unsigned, _then_}
-use Rattle.exports.proofs.Laws.{answered}
+use Rattle.exports.proofs.Stores.{unsigned, _then_, goes-on}
+use Rattle.exports.proofs.Laws.{headed}
 use Rattle.exports.proofs.put_duration.Statement.{statement}
 use Rattle.exports.proofs.put_duration.Tie as tie
 
@@ -14,22 +13,13 @@ pub put-duration-spec : {M : Type 1} → statement M
 put-duration-spec =
     tie.close
     (tie.spec
+    (λ c κs. search needs)
+    (λ c κs. search needs)
     (λ c. search needs)
     (λ c. search needs)
-    (λ c. simp length-set (omega arith))
     (λ c. search needs)
-    (λ c. simp length-set (omega arith))
+    (λ c κs. search needs)
     (λ c. search needs)
-    (λ c. simp length-set (omega arith))
-    (λ c. search needs)
-    (λ c. simp length-set (omega arith))
-    (λ c. search needs)
-    (λ c. simp length-set (omega arith))
-    (λ c. search needs)
-    (λ c. simp length-set (omega arith))
-    (λ c. search needs)
-    (λ c. simp length-set (omega arith))
-    (λ c. search needs)
-    (λ c. simp length-set (omega arith))
-    (λ c. simp length-set)
-    (λ c. answered (toZ-pos w64 (omega arith) then toZ-ofZ (search needs) then unsigned (search needs) then unsigned (search needs) then unsigned (search needs) then unsigned (search needs) then unsigned (search needs) then unsigned (search needs) then unsigned (search needs) then refl) refl (omega arith) refl))
+    (λ c.
+    let d = c .before .before .before .before .before .before .before .before .before .before .before .before .args .d in
+    headed (search needs) (omega arith) (c .before .before .before .before .before .before .before .before .before .before .put-head .ensures) (goes-on (c .before .before .before .before .before .before .before .before .before .before .put-head .last .0) 2 (pos (d .years) ∷ pos (d .months) ∷ pos (d .weeks) ∷ pos (d .days) ∷ []) (pos (d .hours) ∷ pos (d .minutes) ∷ pos (d .seconds) ∷ []) (unsigned (search needs) then unsigned (search needs) then unsigned (search needs) then refl) (c .before .before .before .before .before .before .before .put-four .ensures) (c .before .put-three .ensures))))

@@ -1,10 +1,11 @@
--- The time's seven numbers are one run.
+-- The offset's run goes on where the four numbers end.
+use mathlib.Core.List.{[], _∷_}
 use mathlib.Core.Path.{refl}
-use native.Mathlib.Omega.{arith}
-use lib.ListN.{length-set}
+use lib.IntN.{pos}
+use mir.Facts.{toZ-ofZ}
 use borrow.Author.Needs.{needs}
-use Rattle.exports.specs.Slots.{timeSlots}
-use Rattle.exports.proofs.Stores.{unsigned, signed, signed-fits, seven, _then_, by}
+use Rattle.exports.specs.Slots.{timeOffsetSlots}
+use Rattle.exports.proofs.Stores.{_then_, by, goes-on}
 use Rattle.exports.proofs.put_time_from.Statement.{statement}
 use Rattle.exports.proofs.put_time_from.Tie as tie
 
@@ -13,34 +14,10 @@ put-time-from-spec =
     tie.close
     (tie.spec
     (λ c κs. search needs)
+    (λ c κs. search needs)
     (λ c. search needs)
+    (λ c κs. search needs)
     (λ c. search needs)
-    (λ c. search needs)
-    (λ c. search needs)
-    (λ c. search needs)
-    (λ c. search needs)
-    (λ c. simp length-set (omega arith))
-    (λ c. search needs)
-    (λ c. search needs)
-    (λ c. search needs)
-    (λ c. simp length-set (omega arith))
-    (λ c. search needs)
-    (λ c. search needs)
-    (λ c. search needs)
-    (λ c. simp length-set (omega arith))
-    (λ c. search needs)
-    (λ c. search needs)
-    (λ c. search needs)
-    (λ c. simp length-set (omega arith))
-    (λ c. search (needs, signed-fits))
-    (λ c. search needs)
-    (λ c. search needs)
-    (λ c. simp length-set (omega arith))
-    (λ c. search (needs, signed-fits))
-    (λ c. search needs)
-    (λ c. search needs)
-    (λ c. simp length-set (omega arith))
-    (λ c. simp length-set)
     (λ c.
     let a = c .before .before .before .before .before .before .before .before .before .before .args in
-    seven (a .slots .now) (a .at) (timeSlots (a .t)) (unsigned (search needs) then unsigned (search needs) then unsigned (search needs) then unsigned (search needs) then by (c .before .before .before .before .before .before .before .before .before .shift-of .ensures) (unsigned (search needs) then signed (search needs) then signed (search needs) then refl))))
+    goes-on (a .slots .now) (a .at) (pos (a .t .hour) ∷ pos (a .t .minute) ∷ pos (a .t .second) ∷ pos (a .t .nanosecond) ∷ []) (timeOffsetSlots (a .t .offset)) (by (c .before .before .before .before .before .before .before .before .before .shift-of .ensures) (toZ-ofZ (search needs) then toZ-ofZ (search needs) then toZ-ofZ (search needs) then refl)) (c .before .before .before .before .before .before .before .put-four .ensures) (c .before .put-three .ensures)))

@@ -1,8 +1,7 @@
 -- Absent or given, the three numbers are those of the case.
 use mathlib.Core.Path.{refl, sym}
-use mir.Facts.{toZ-ofZ}
 use borrow.Author.Needs.{needs}
-use Rattle.exports.proofs.Stores.{_then_}
+use Rattle.exports.proofs.Stores.{signed, signed-fits, _then_}
 use Rattle.exports.proofs.shift_of.Statement.{statement}
 use Rattle.exports.proofs.shift_of.Tie as tie
 
@@ -12,5 +11,7 @@ shift-of-spec =
     (tie.spec
     (λ c. search needs)
     (λ c. search needs)
+    (λ c. search (needs, signed-fits))
+    (λ c. search (needs, signed-fits))
     (λ c. rw (c .enum-told .given .1))
-    (λ c. rw (c .before .before .o .given .1) (sym (refl then toZ-ofZ (search needs) then toZ-ofZ (search needs) then refl))))
+    (λ c. rw (c .before .before .before .before .before .o .given .1) (sym (refl then signed (search needs) then signed (search needs) then refl))))
