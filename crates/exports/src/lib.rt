@@ -86,8 +86,7 @@ fn put_refusal(slots: &mut [i64], count: usize, verdict: i64, why: Refusal) -> u
     requires { ⌜ (2 ≤ length (now slots)) × (count < 2 ^ 63) ⌝ }
     ensures { λ r. ⌜ Answered noSlots verdict (refused (numberOf why) count) (now (slots .entry)) (now (slots .exit)) r ⌝ }
 {
-    slots[0] = count as i64;
-    slots[1] = verdict;
+    put_head(slots, count, verdict);
     number(why)
 }
 
@@ -95,8 +94,7 @@ fn put_offset(slots: &mut [i64], count: usize, verdict: i64, o: Offset) -> u32
     requires { ⌜ (4 ≤ length (now slots)) × (count < 2 ^ 63) ⌝ }
     ensures { λ r. ⌜ Answered offsetSlots verdict (recorded o count) (now (slots .entry)) (now (slots .exit)) r ⌝ }
 {
-    slots[0] = count as i64;
-    slots[1] = verdict;
+    put_head(slots, count, verdict);
     slots[2] = o.hours as i64;
     slots[3] = o.minutes as i64;
     0
@@ -179,17 +177,23 @@ fn day_of(d: Date) -> Day
     }
 }
 
+fn put_day(slots: &mut [i64], form: u32, year: i32, part: u32, day: u32)
+    requires { ⌜ 6 ≤ length (now slots) ⌝ }
+    ensures { λ _. ⌜ now (slots .exit) ≡ sets (now (slots .entry)) 2 (pos form ∷ year ∷ pos part ∷ pos day ∷ []) ⌝ }
+{
+    slots[2] = form as i64;
+    slots[3] = year as i64;
+    slots[4] = part as i64;
+    slots[5] = day as i64;
+}
+
 fn put_date(slots: &mut [i64], count: usize, verdict: i64, d: Date) -> u32
     requires { ⌜ (6 ≤ length (now slots)) × (count < 2 ^ 63) ⌝ }
     ensures { λ r. ⌜ Answered dateSlots verdict (recorded d count) (now (slots .entry)) (now (slots .exit)) r ⌝ }
 {
     let day = day_of(d);
-    slots[0] = count as i64;
-    slots[1] = verdict;
-    slots[2] = day.form as i64;
-    slots[3] = day.year as i64;
-    slots[4] = day.part as i64;
-    slots[5] = day.day as i64;
+    put_head(slots, count, verdict);
+    put_day(slots, day.form, day.year, day.part, day.day);
     0
 }
 

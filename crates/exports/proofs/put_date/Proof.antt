@@ -1,12 +1,12 @@
 -- The date's four numbers stand behind the count and the verdict.
-use mathlib.Core.Path.{refl}
+use mathlib.Core.Path.{refl, ap, _∙_}
 use native.Mathlib.Omega.{arith}
-use lib.ListN.{length-set}
-use mir.Syntax.{w64}
-use mir.Facts.{toZ-ofZ, toZ-pos}
+use lib.Seq.{sets}
+use mir.Syntax.{w32}
+use mir.Facts.{toZ-ofZ}
 use borrow.Author.Needs.{needs}
-use Rattle.exports.proofs.Stores.{unsigned, signed, signed-fits, _then_, by}
-use Rattle.exports.proofs.Laws.{answered}
+use Rattle.exports.proofs.Stores.{_then_, by}
+use Rattle.exports.proofs.Laws.{headed, date-length}
 use Rattle.exports.proofs.put_date.Statement.{statement}
 use Rattle.exports.proofs.put_date.Tie as tie
 
@@ -15,16 +15,7 @@ put-date-spec =
     tie.close
     (tie.spec
     (λ c κs. search needs)
+    (λ c κs. search needs)
+    (λ c κs. search needs)
     (λ c. search needs)
-    (λ c. search needs)
-    (λ c. simp length-set (omega arith))
-    (λ c. search needs)
-    (λ c. simp length-set (omega arith))
-    (λ c. search (needs, signed-fits))
-    (λ c. simp length-set (omega arith))
-    (λ c. search needs)
-    (λ c. simp length-set (omega arith))
-    (λ c. search needs)
-    (λ c. simp length-set (omega arith))
-    (λ c. simp length-set)
-    (λ c. answered (toZ-pos w64 (omega arith) then toZ-ofZ (search needs) then by (c .before .before .before .before .before .day-of .ensures) (unsigned (search needs) then signed (search needs) then unsigned (search needs) then unsigned (search needs) then refl)) refl (omega arith) refl))
+    (λ c. headed (search needs) (omega (arith, date-length (c .before .before .before .before .before .before .before .before .args .d))) (c .before .before .before .before .before .put-head .ensures) (c .before .put-day .ensures ∙ ap (sets (c .before .before .before .before .before .put-head .last .0) 2) (by (c .before .before .before .before .before .before .before .day-of .ensures) (refl then toZ-ofZ {w = w32} (search needs) then refl)))))
