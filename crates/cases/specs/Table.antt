@@ -5,52 +5,25 @@ use mathlib.Core.Option.{Option, some, none}
 use lib.IntN.{pos, negℤ}
 use Rattle.types.specs.declared.Verdict.{Verdict}
 use Rattle.types.specs.declared.Verdict.the-variants.{Settled, Open}
-use Rattle.types.specs.declared.Offset.{Offset}
-use Rattle.types.specs.declared.Date.{Date}
 use Rattle.types.specs.declared.Date.the-variants.{YMD, Week, Ordinal}
 use Rattle.types.specs.declared.TimeOffset.the-variants.{Absent}
 use Rattle.types.specs.declared.Time.{Time}
-use Rattle.types.specs.declared.DateTime.{DateTime}
 use Rattle.types.specs.declared.Duration.{Duration}
-use Rattle.parser.specs.Reading.{Reader, map}
 use Rattle.parser.specs.Answer.{Told, recorded, refused}
-use Rattle.offset.specs.Rules as offset-rules
-use Rattle.time.specs.Rules as time-rules
-use Rattle.date.specs.Rules as date-rules
-use Rattle.datetime.specs.Rules as datetime-rules
-use Rattle.duration.specs.Rules as duration-rules
-
--- a record of any kind
-pub data Value : Type 0 where
-  offset : Offset → Value
-  date : Date → Value
-  time : Time → Value
-  stamp : DateTime → Value
-  duration : Duration → Value
-
-pub data Kind : Type 0 where
-  offsets : Kind
-  dates : Kind
-  times : Kind
-  stamps : Kind
-  durations : Kind
-
-abbrev pub ruleOf : Kind → Reader Value
-ruleOf offsets = map offset offset-rules.offset
-ruleOf dates = map date date-rules.date
-ruleOf times = map time time-rules.time
-ruleOf stamps = map stamp datetime-rules.dateTime
-ruleOf durations = map duration duration-rules.duration
+use Rattle.kinds.specs.declared.answer.Kind.{Kind}
+use Rattle.kinds.specs.declared.answer.Kind.the-variants as kind
+use Rattle.kinds.specs.declared.answer.Record.{Record}
+use Rattle.kinds.specs.declared.answer.Record.the-variants as record-of
 
 pub record Row : Type 0 where
   pub kind : Kind
   pub bytes : List ℕ
-  pub told : Told Value
+  pub told : Told Record
   pub verdict : Verdict
-  pub whole : Option (Told Value)
+  pub whole : Option (Told Record)
 
 -- the beginning reader's answer and verdict, where the paper says nothing of the whole
-abbrev pub begins : Kind → List ℕ → Told Value → Verdict → Row
+abbrev pub begins : Kind → List ℕ → Told Record → Verdict → Row
 begins k s t v = record { kind = k; bytes = s; told = t; verdict = v; whole = none }
 
 abbrev pub seconds : ℕ → Duration
@@ -62,35 +35,35 @@ clock h m s n = record { hour = h; minute = m; second = s; nanosecond = n; offse
 unfoldable pub table : List Row
 table =
     -- (no bytes)
-    begins offsets ([]) (refused 1 0) Open ∷
+    begins kind.Offset ([]) (refused 1 0) Open ∷
     -- -00
-    begins offsets (45 ∷ 48 ∷ 48 ∷ []) (refused 1 0) Open ∷
+    begins kind.Offset (45 ∷ 48 ∷ 48 ∷ []) (refused 1 0) Open ∷
     -- -00:30
-    begins offsets (45 ∷ 48 ∷ 48 ∷ 58 ∷ 51 ∷ 48 ∷ []) (recorded (offset (record { hours = pos 0; minutes = negℤ (pos 30) })) 6) Settled ∷
+    begins kind.Offset (45 ∷ 48 ∷ 48 ∷ 58 ∷ 51 ∷ 48 ∷ []) (recorded (record-of.Offset (record { hours = pos 0; minutes = negℤ (pos 30) })) 6) Settled ∷
     -- +23:59
-    begins offsets (43 ∷ 50 ∷ 51 ∷ 58 ∷ 53 ∷ 57 ∷ []) (recorded (offset (record { hours = pos 23; minutes = pos 59 })) 6) Settled ∷
+    begins kind.Offset (43 ∷ 50 ∷ 51 ∷ 58 ∷ 53 ∷ 57 ∷ []) (recorded (record-of.Offset (record { hours = pos 23; minutes = pos 59 })) 6) Settled ∷
     -- 2015-11-02
-    begins dates (50 ∷ 48 ∷ 49 ∷ 53 ∷ 45 ∷ 49 ∷ 49 ∷ 45 ∷ 48 ∷ 50 ∷ []) (recorded (date (YMD (pos 2015) 11 2)) 10) Settled ∷
+    begins kind.Date (50 ∷ 48 ∷ 49 ∷ 53 ∷ 45 ∷ 49 ∷ 49 ∷ 45 ∷ 48 ∷ 50 ∷ []) (recorded (record-of.Date (YMD (pos 2015) 11 2)) 10) Settled ∷
     -- 2015-1102
-    record { kind = dates; bytes = 50 ∷ 48 ∷ 49 ∷ 53 ∷ 45 ∷ 49 ∷ 49 ∷ 48 ∷ 50 ∷ []; told = recorded (date (Ordinal (pos 2015) 110)) 8; verdict = Settled; whole = some (refused 3 8) } ∷
+    record { kind = kind.Date; bytes = 50 ∷ 48 ∷ 49 ∷ 53 ∷ 45 ∷ 49 ∷ 49 ∷ 48 ∷ 50 ∷ []; told = recorded (record-of.Date (Ordinal (pos 2015) 110)) 8; verdict = Settled; whole = some (refused 3 8) } ∷
     -- 2015-11-32
-    begins dates (50 ∷ 48 ∷ 49 ∷ 53 ∷ 45 ∷ 49 ∷ 49 ∷ 45 ∷ 51 ∷ 50 ∷ []) (recorded (date (YMD (pos 2015) 11 1)) 7) Settled ∷
+    begins kind.Date (50 ∷ 48 ∷ 49 ∷ 53 ∷ 45 ∷ 49 ∷ 49 ∷ 45 ∷ 51 ∷ 50 ∷ []) (recorded (record-of.Date (YMD (pos 2015) 11 1)) 7) Settled ∷
     -- 2015-W45
-    begins dates (50 ∷ 48 ∷ 49 ∷ 53 ∷ 45 ∷ 87 ∷ 52 ∷ 53 ∷ []) (recorded (date (Week (pos 2015) 45 1)) 8) Open ∷
+    begins kind.Date (50 ∷ 48 ∷ 49 ∷ 53 ∷ 45 ∷ 87 ∷ 52 ∷ 53 ∷ []) (recorded (record-of.Date (Week (pos 2015) 45 1)) 8) Open ∷
     -- 2015-W458
-    begins dates (50 ∷ 48 ∷ 49 ∷ 53 ∷ 45 ∷ 87 ∷ 52 ∷ 53 ∷ 56 ∷ []) (refused 1 0) Settled ∷
+    begins kind.Date (50 ∷ 48 ∷ 49 ∷ 53 ∷ 45 ∷ 87 ∷ 52 ∷ 53 ∷ 56 ∷ []) (refused 1 0) Settled ∷
     -- 2015113
-    begins dates (50 ∷ 48 ∷ 49 ∷ 53 ∷ 49 ∷ 49 ∷ 51 ∷ []) (recorded (date (Ordinal (pos 2015) 113)) 7) Open ∷
+    begins kind.Date (50 ∷ 48 ∷ 49 ∷ 53 ∷ 49 ∷ 49 ∷ 51 ∷ []) (recorded (record-of.Date (Ordinal (pos 2015) 113)) 7) Open ∷
     -- 2015114
-    begins dates (50 ∷ 48 ∷ 49 ∷ 53 ∷ 49 ∷ 49 ∷ 52 ∷ []) (recorded (date (Ordinal (pos 2015) 114)) 7) Settled ∷
+    begins kind.Date (50 ∷ 48 ∷ 49 ∷ 53 ∷ 49 ∷ 49 ∷ 52 ∷ []) (recorded (record-of.Date (Ordinal (pos 2015) 114)) 7) Settled ∷
     -- 21:56:42.1234567891
-    begins times (50 ∷ 49 ∷ 58 ∷ 53 ∷ 54 ∷ 58 ∷ 52 ∷ 50 ∷ 46 ∷ 49 ∷ 50 ∷ 51 ∷ 52 ∷ 53 ∷ 54 ∷ 55 ∷ 56 ∷ 57 ∷ 49 ∷ []) (recorded (time (clock 21 56 42 123456789)) 19) Open ∷
+    begins kind.Time (50 ∷ 49 ∷ 58 ∷ 53 ∷ 54 ∷ 58 ∷ 52 ∷ 50 ∷ 46 ∷ 49 ∷ 50 ∷ 51 ∷ 52 ∷ 53 ∷ 54 ∷ 55 ∷ 56 ∷ 57 ∷ 49 ∷ []) (recorded (record-of.Time (clock 21 56 42 123456789)) 19) Open ∷
     -- 24:00
-    begins times (50 ∷ 52 ∷ 58 ∷ 48 ∷ 48 ∷ []) (refused 1 0) Settled ∷
+    begins kind.Time (50 ∷ 52 ∷ 58 ∷ 48 ∷ 48 ∷ []) (refused 1 0) Settled ∷
     -- 2015-11-02T21:56:4
-    begins stamps (50 ∷ 48 ∷ 49 ∷ 53 ∷ 45 ∷ 49 ∷ 49 ∷ 45 ∷ 48 ∷ 50 ∷ 84 ∷ 50 ∷ 49 ∷ 58 ∷ 53 ∷ 54 ∷ 58 ∷ 52 ∷ []) (recorded (stamp (record { date = YMD (pos 2015) 11 2; time = clock 21 56 0 0 })) 16) Open ∷
+    begins kind.Stamp (50 ∷ 48 ∷ 49 ∷ 53 ∷ 45 ∷ 49 ∷ 49 ∷ 45 ∷ 48 ∷ 50 ∷ 84 ∷ 50 ∷ 49 ∷ 58 ∷ 53 ∷ 54 ∷ 58 ∷ 52 ∷ []) (recorded (record-of.Stamp (record { date = YMD (pos 2015) 11 2; time = clock 21 56 0 0 })) 16) Open ∷
     -- P4294967295S
-    begins durations (80 ∷ 52 ∷ 50 ∷ 57 ∷ 52 ∷ 57 ∷ 54 ∷ 55 ∷ 50 ∷ 57 ∷ 53 ∷ 83 ∷ []) (recorded (duration (seconds 4294967295)) 12) Settled ∷
+    begins kind.Duration (80 ∷ 52 ∷ 50 ∷ 57 ∷ 52 ∷ 57 ∷ 54 ∷ 55 ∷ 50 ∷ 57 ∷ 53 ∷ 83 ∷ []) (recorded (record-of.Duration (seconds 4294967295)) 12) Settled ∷
     -- P4294967296S
-    begins durations (80 ∷ 52 ∷ 50 ∷ 57 ∷ 52 ∷ 57 ∷ 54 ∷ 55 ∷ 50 ∷ 57 ∷ 54 ∷ 83 ∷ []) (refused 2 0) Settled ∷
+    begins kind.Duration (80 ∷ 52 ∷ 50 ∷ 57 ∷ 52 ∷ 57 ∷ 54 ∷ 55 ∷ 50 ∷ 57 ∷ 54 ∷ 83 ∷ []) (refused 2 0) Settled ∷
     []

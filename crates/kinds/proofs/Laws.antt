@@ -1,68 +1,63 @@
--- What holds of every kind's rule, once over the kind: each kind's own law, under the name of its records.
+-- What holds of every kind's rule, once over the kind: each kind's own laws, under the name of its records.
 use Prim.Native.Nat.{ℕ, _≤_}
-use mathlib.Core.List.{List, _∷_, _++_}
+use mathlib.Core.List.{List, [], _∷_, _++_}
 use mathlib.Core.Bool.{Bool, true, false}
 use mathlib.Core.Path.{_≡_, refl}
 use native.Mathlib.Omega.{arith}
 use lib.ListN.{length}
 use borrow.Author.Tests.{le-ltb}
 use Rattle.types.specs.declared.Verdict.the-variants.{Open}
-use Rattle.parser.specs.Reading.{Found, seq, opt, Says}
+use Rattle.parser.specs.Reading.{Found, Says}
 use Rattle.parser.specs.Answer.{begun, recorded, verdictOf, Judged, Begins, Ended}
-use Rattle.parser.proofs.Stable.{Stable, map-stable}
-use Rattle.parser.proofs.Places.{Bounded, Fails, lit-fails, map-bounded, map-fails}
-use Rattle.parser.proofs.Hopeful.{Anything, Hopeful, map-hopeful}
-use Rattle.parser.proofs.Verdict.{says-begins}
-use Rattle.date.proofs.Laws.{date-stable, date-bounded, date-fails, date-hopeful}
-use Rattle.time.specs.Rules.{time}
-use Rattle.time.proofs.Laws.{time-stable, time-bounded, base-time-fails, time-hopeful}
-use Rattle.offset.proofs.Laws.{offset-stable, offset-bounded, offset-fails, offset-hopeful}
-use Rattle.datetime.proofs.Laws.{datetime-stable, datetime-bounded, datetime-fails, datetime-hopeful}
-use Rattle.duration.proofs.Laws.{duration-stable, duration-bounded, duration-fails, duration-hopeful}
+use Rattle.parser.proofs.Stable.{Stable}
+use Rattle.parser.proofs.Places.{Bounded, Fails}
+use Rattle.parser.proofs.Hopeful.{Anything, Hopeful}
+use Rattle.parser.proofs.Lawful.{Lawful, lawful-begins, widen, map-item}
+use Rattle.date.proofs.Laws.{date-item}
+use Rattle.time.proofs.Laws.{time-item}
+use Rattle.offset.proofs.Laws.{offset-item}
+use Rattle.datetime.proofs.Laws.{datetime-item}
+use Rattle.duration.proofs.Laws.{duration-item}
 use Rattle.kinds.specs.declared.answer.Kind.{Kind}
 use Rattle.kinds.specs.declared.answer.Kind.the-variants as kind
 use Rattle.kinds.specs.declared.answer.Record.{Record}
 use Rattle.kinds.specs.Kinds.{ruleOf, bound}
 
+-- what a record takes beside digits: `+`, `-`, `W`, `T`, `:`, `,`, `.`, `Z`, and a duration's letters
+abbrev pub bytes : List ℕ
+bytes = 43 ∷ 45 ∷ 87 ∷ 84 ∷ 58 ∷ 44 ∷ 46 ∷ 90 ∷ 80 ∷ 89 ∷ 77 ∷ 68 ∷ 72 ∷ 83 ∷ []
+
+-- stable, within the input, deaf to every other byte, and hopeful with its bound
+pub lawful : (k : Kind) → Lawful bytes (bound k) Anything (ruleOf k)
+lawful kind.Date = widen refl (map-item _ date-item) .lawful
+lawful kind.Time = widen refl (map-item _ time-item) .lawful
+lawful kind.Offset = widen refl (map-item _ offset-item) .lawful
+lawful kind.Stamp = widen refl (map-item _ datetime-item) .lawful
+lawful kind.Duration = widen refl (map-item _ duration-item) .lawful
+
+-- past the end nothing is found
+pub fails : (k : Kind) → Fails (ruleOf k)
+fails kind.Date = map-item _ date-item .fails
+fails kind.Time = map-item _ time-item .fails
+fails kind.Offset = map-item _ offset-item .fails
+fails kind.Stamp = map-item _ datetime-item .fails
+fails kind.Duration = map-item _ duration-item .fails
+
 -- where no byte more could matter, every longer input reads the same
 pub stable : (k : Kind) → Stable (ruleOf k)
-stable kind.Date = map-stable _ _ date-stable
-stable kind.Time = map-stable _ _ time-stable
-stable kind.Offset = map-stable _ _ offset-stable
-stable kind.Stamp = map-stable _ _ datetime-stable
-stable kind.Duration = map-stable _ _ duration-stable
+stable k = lawful k .stable
 
 -- what is found ends within the input
 pub bounded : (k : Kind) → Bounded (ruleOf k)
-bounded kind.Date = map-bounded _ _ date-bounded
-bounded kind.Time = map-bounded _ _ time-bounded
-bounded kind.Offset = map-bounded _ _ offset-bounded
-bounded kind.Stamp = map-bounded _ _ datetime-bounded
-bounded kind.Duration = map-bounded _ _ duration-bounded
-
--- past the end nothing is found
-time-fails : Fails time
-unfolding time seq opt
-time-fails s at h = rw (lit-fails 84 s at h) (base-time-fails s at h)
-
-pub fails : (k : Kind) → Fails (ruleOf k)
-fails kind.Date = map-fails _ _ date-fails
-fails kind.Time = map-fails _ _ time-fails
-fails kind.Offset = map-fails _ _ offset-fails
-fails kind.Stamp = map-fails _ _ datetime-fails
-fails kind.Duration = map-fails _ _ duration-fails
+bounded k = lawful k .bounded
 
 -- where a byte more could matter, so many bytes, or fewer, are read to the last one
 pub hopeful : (k : Kind) → Hopeful (bound k) Anything (ruleOf k)
-hopeful kind.Date = map-hopeful Anything _ _ (λ _ _. tt) date-hopeful
-hopeful kind.Time = map-hopeful Anything _ _ (λ _ _. tt) time-hopeful
-hopeful kind.Offset = map-hopeful Anything _ _ (λ _ _. tt) offset-hopeful
-hopeful kind.Stamp = map-hopeful Anything _ _ (λ _ _. tt) datetime-hopeful
-hopeful kind.Duration = map-hopeful Anything _ _ (λ _ _. tt) duration-hopeful
+hopeful k = lawful k .hopeful
 
 -- so what code says of a kind's rule at the beginning is what its beginning reader has to promise
 pub says : (k : Kind) (s : List ℕ) (f : Found Record) (m : Bool) → Says (ruleOf k) s 0 f m → Begins (bound k) (ruleOf k) s (begun f) (verdictOf m)
-says k = says-begins (bound k) Anything (ruleOf k) (stable k) (bounded k) (hopeful k)
+says k = lawful-begins (lawful k)
 
 -- ---- an open text has a completion that the whole reader accepts
 
