@@ -19,11 +19,11 @@ use Rattle.words.specs.declared.word.Name.{Name}
 use Rattle.words.specs.declared.word.Name.the-variants as name
 use Rattle.words.specs.declared.word.Word.{Word}
 use Rattle.words.specs.declared.word.Word.the-variants as word
-use Rattle.words.specs.Text.{decimal, decimalOf}
+use Rattle.text.specs.Text.{decimal, decimalOf}
 use Rattle.words.specs.Words.{lettersOf, wordText, textOf}
 use Rattle.words.specs.Records.{headWords, dateWords, firstWords, thenWords, recordOrDash}
 use Rattle.words.specs.Line.{Gives, questionOf, AnswersTo, AnswersLine}
-use Rattle.words.proofs.Laws.{puts-fits}
+use Rattle.text.proofs.Laws.{puts-fits}
 use Rattle.answers.specs.Stream.{Added}
 
 digits-short : (k n : ℕ) → length (decimalOf k n) ≤ k

@@ -159,12 +159,6 @@ fn replay_lines(block: &[u8], question: &mut [u8], out: &mut [u8], tally: Tally)
     Left { tally, from }
 }
 
-// Prints a number and some words behind it.
-fn say(n: u64, words: &[u8]) {
-    io::print_decimal(STDOUT_FILENO, n);
-    io::write_all(STDOUT_FILENO, words);
-}
-
 // Reads a block behind the bytes that are held, replays what it ends, and holds the rest.
 fn replay_block(
     buf: &mut [u8],
@@ -213,6 +207,8 @@ fn main() {
     let mut question = [0u8; 256];
     let mut out = [0u8; 1024];
     let tally = replay_all(&mut buf, &mut question, &mut out);
-    say(tally.replayed, b" replayed, ");
-    say(tally.differ, b" differ\n");
+    io::print_decimal(STDOUT_FILENO, tally.replayed);
+    io::write_all(STDOUT_FILENO, b" replayed, ");
+    io::print_decimal(STDOUT_FILENO, tally.differ);
+    io::write_all(STDOUT_FILENO, b" differ\n");
 }

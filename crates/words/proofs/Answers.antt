@@ -8,11 +8,12 @@ use Rattle.kinds.specs.declared.answer.Kind.{Kind}
 use Rattle.kinds.specs.declared.answer.Answer.{Answer}
 use Rattle.kinds.specs.declared.answer.Record.{Record}
 use Rattle.kinds.specs.Kinds.{ruleOf, bound, told}
-use Rattle.words.specs.Text.{Puts, decimal}
+use Rattle.text.specs.Text.{Puts, decimal}
 use Rattle.words.specs.Words.{textOf}
 use Rattle.words.specs.Records.{headWords, firstWords, thenWords, recordWords, recordOrDash}
 use Rattle.words.specs.Line.{Answered, Gives}
-use Rattle.words.proofs.Laws.{then-puts, text-append}
+use Rattle.text.proofs.Laws.{then-puts}
+use Rattle.words.proofs.Laws.{text-append}
 
 module _ (k : Kind) (s : List ℕ) (begun whole : Answer) (v : Verdict) where
   pub answered : Begins (bound k) (ruleOf k) s (told begun) v → Ended (ruleOf k) s (told whole)

@@ -1,5 +1,4 @@
 pub mod Laws
-pub mod Decimals
 pub mod Sizes
 pub mod Asked
 pub mod Answers

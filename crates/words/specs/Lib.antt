@@ -1,4 +1,3 @@
-pub mod Text
 pub mod Words
 pub mod Records
 pub mod Line

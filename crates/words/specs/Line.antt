@@ -13,7 +13,7 @@ use Rattle.kinds.specs.declared.answer.Letter.{Letter}
 use Rattle.kinds.specs.declared.answer.Letter.the-variants.{Names, Unknown}
 use Rattle.kinds.specs.Kinds.{ruleOf, bound, letterOf}
 use Rattle.words.specs.declared.word.Name.the-variants as name
-use Rattle.words.specs.Text.{Puts, decimal}
+use Rattle.text.specs.Text.{Puts, decimal}
 use Rattle.words.specs.Words.{lettersOf, textOf}
 use Rattle.words.specs.Records.{headWords, recordOrDash}
 

@@ -4,7 +4,7 @@ use mathlib.Core.List.{List, [], _∷_, _++_}
 use lib.IntN.{ℤ, pos, negsuc}
 use lib.Dec.{eqb}
 use Rattle.parser.specs.Reading.{pick}
-use Rattle.words.specs.Text.{decimal, spaced}
+use Rattle.text.specs.Text.{decimal}
 use Rattle.words.specs.declared.word.Name.{Name}
 use Rattle.words.specs.declared.word.Name.the-variants as name
 use Rattle.words.specs.declared.word.Word.{Word}
@@ -27,6 +27,10 @@ lettersOf name.Unknown = 117 ∷ 110 ∷ 107 ∷ 110 ∷ 111 ∷ 119 ∷ 110 ∷
 unfoldable pub packed : ℕ → ℕ → List ℕ
 packed zero n = []
 packed (suc k) n = pick (eqb n 0) [] (n % 256 ∷ packed k (n / 256))
+
+-- a word behind its space
+abbrev pub spaced : List ℕ → List ℕ
+spaced w = 32 ∷ w
 
 -- "one space between words": each word but a line's first stands behind one; "a minus where negative"
 abbrev pub wordText : Word → List ℕ

@@ -1,21 +1,21 @@
 // The answer to a line.
 ghost use mathlib.Core.Path.{_≡_};
-ghost use Rattle.words.specs.Text.{Puts};
+ghost use Rattle.text.specs.Text.{Puts};
 ghost use Rattle.words.specs.Words.{textOf};
 ghost use Rattle.words.specs.Records.{firstWords, recordWords};
 ghost use Rattle.words.specs.Line.{Gives, Answered, questionOf, Answers, AnswersLine};
 use crate::records;
-use crate::text::put_byte;
-use crate::text::put_decimal;
-use crate::text::put_name;
-use crate::text::put_word;
-use crate::text::put_words;
+use crate::rows::put_name;
+use crate::rows::put_word;
+use crate::rows::put_words;
 use crate::word::Name;
 use crate::word::Word;
 use kinds::answer::Answer;
 use kinds::answer::Kind;
 use kinds::answer::Letter;
 use kinds::answer::Record;
+use text::put_byte;
+use text::put_decimal;
 
 // A record's words; of a date-time the date's, and the time's follow.
 fn first_row(value: Record) -> [Word; 9]

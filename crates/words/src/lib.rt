@@ -5,5 +5,5 @@
 // put into a buffer of the caller's. Programs stand on `answer_line`.
 pub mod answer;
 mod records;
-mod text;
+mod rows;
 mod word;

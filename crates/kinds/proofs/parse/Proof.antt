@@ -8,9 +8,9 @@ pub parse-spec : {M : Type 1} → statement M
 parse-spec =
     tie.close
     (tie.spec
-    (λ c. search needs) (λ c κs. search needs) (λ c κs. search needs) (λ c. search needs) (λ c κs. search needs)
-    (λ c κs. search needs) (λ c. search needs) (λ c κs. search needs) (λ c κs. search needs) (λ c. search needs)
-    (λ c κs. search needs) (λ c κs. search needs) (λ c. search needs) (λ c κs. search needs) (λ c κs. search needs)
+    (λ c. search needs) (λ c κs. search needs) (λ c κs. search needs) (λ c. search needs) (λ c κs. search needs) (λ c κs. search needs)
+    (λ c. search needs) (λ c κs. search needs) (λ c κs. search needs) (λ c. search needs) (λ c κs. search needs) (λ c κs. search needs)
+    (λ c. search needs) (λ c κs. search needs) (λ c κs. search needs)
     (λ c. rw (c .before .before .enum-told .given .1) (ends-as _ _ _ (c .of-date .ensures) (c .before .parse-date .ensures)))
     (λ c. rw (c .before .before .enum-told2 .given .1) (ends-as _ _ _ (c .of-time .ensures) (c .before .parse-time .ensures)))
     (λ c. rw (c .before .before .enum-told3 .given .1) (ends-as _ _ _ (c .of-offset .ensures) (c .before .parse-offset .ensures)))

@@ -1,7 +1,7 @@
 -- The answer, and the byte that ends it.
 use mathlib.Core.List.{[], _∷_, _++_}
 use mathlib.Core.Path.{refl}
-use Rattle.words.proofs.Laws.{then-puts}
+use Rattle.text.proofs.Laws.{then-puts}
 use borrow.Author.Needs.{needs}
 use Rattle.words.proofs.answer.answer_line.Statement.{statement}
 use Rattle.words.proofs.answer.answer_line.Tie as tie

@@ -7,9 +7,8 @@ pub first-row-spec : {M : Type 1} → statement M
 first-row-spec =
     tie.close
     (tie.spec
+    (λ c. search needs) (λ c κs. search needs) (λ c. search needs) (λ c κs. search needs) (λ c. search needs) (λ c κs. search needs)
     (λ c. search needs) (λ c κs. search needs) (λ c. search needs) (λ c κs. search needs) (λ c. search needs)
-    (λ c κs. search needs) (λ c. search needs) (λ c κs. search needs) (λ c. search needs) (λ c κs. search needs)
-    (λ c. search needs)
     (λ c. rw (c .before .before .value2 .given .1) (c .time .ensures))
     (λ c. rw (c .before .before .value3 .given .1) (c .offset .ensures))
     (λ c. search needs)

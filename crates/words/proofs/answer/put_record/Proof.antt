@@ -10,8 +10,8 @@ pub put-record-spec : {M : Type 1} → statement M
 put-record-spec =
     tie.close
     (tie.spec
-    (λ c κs. search needs) (λ c κs. search needs) (λ c. search needs) (λ c κs. search needs) (λ c κs. search needs)
-    (λ c. search needs) (λ c. search needs) (λ c. search needs) (λ c. search needs) (λ c. search needs)
+    (λ c κs. search needs) (λ c κs. search needs) (λ c. search needs) (λ c κs. search needs) (λ c κs. search needs) (λ c. search needs)
+    (λ c. search needs) (λ c. search needs) (λ c. search needs) (λ c. search needs)
     (λ c. two-rows (c .before .before .before .before .before .before .before .before .before .before .before .before .before .before .before .args .value) (c .before .before .before .before .before .before .before .before .before .before .before .before .first-row .ensures) (c .before .before .before .before .before .before .before .before .before .before .before .put-words .ensures) (rw (c .before .before .before .before .before .before .before .value .given .1, ← c .before .before .before .time2 .ensures) (c .before .before .put-words2 .ensures)))
     (λ c. search needs)
     (λ c. one-row (c .before .before .before .before .before .before .before .before .args .value) (c .before .before .before .before .before .first-row .ensures) (ap thenWords (c .enum-told .given .1)) (c .before .before .before .before .put-words .ensures))

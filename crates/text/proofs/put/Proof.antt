@@ -4,10 +4,10 @@ use mathlib.Core.Path.{_≡_, refl, _∙_}
 use borrow.Author.Needs.{needs}
 use native.Mathlib.Omega.{arith}
 use lib.ListN.{length, take}
-use Rattle.words.specs.Text.{Puts}
-use Rattle.words.proofs.Laws.{puts-nothing, puts-more, puts-all}
-use Rattle.words.proofs.text.put.Statement.{statement}
-use Rattle.words.proofs.text.put.Tie as tie
+use Rattle.text.specs.Text.{Puts}
+use Rattle.text.proofs.Laws.{puts-nothing, puts-more, puts-all}
+use Rattle.text.proofs.put.Statement.{statement}
+use Rattle.text.proofs.put.Tie as tie
 
 abbrev Inv-loop : tie.InvT-loop
 Inv-loop out₀ at bytes next₀ i₀ out next i = (i ≤ length bytes) × (length out ≡ length out₀) × Puts (take i bytes) out₀ at out next

@@ -1,8 +1,8 @@
 -- A byte is stored where there is room for it, and left out where there is none.
 use borrow.Author.Needs.{needs}
-use Rattle.words.proofs.Laws.{puts-byte, puts-no-byte}
-use Rattle.words.proofs.text.put_byte.Statement.{statement}
-use Rattle.words.proofs.text.put_byte.Tie as tie
+use Rattle.text.proofs.Laws.{puts-byte, puts-no-byte}
+use Rattle.text.proofs.put_byte.Statement.{statement}
+use Rattle.text.proofs.put_byte.Tie as tie
 
 pub put-byte-spec : {M : Type 1} → statement M
 put-byte-spec =

@@ -1,5 +1,4 @@
--- What an output is given: bytes one behind the other, from a place on, as far as there is room. That nothing is left out where there is
--- room for all of it is `puts-fits` of `proofs/Laws.antt`.
+-- What an output is given: bytes one behind the other, from a place on, as far as there is room.
 use Prim.Native.Nat.{ℕ, zero, suc, _+_, _/_, _%_}
 use mathlib.Core.List.{List, [], _∷_, _++_}
 use mathlib.Core.Path.{_≡_}
@@ -35,7 +34,3 @@ decimalOf (suc k) n = pick (ltb n 10) ((48 + n) ∷ []) (decimalOf k (n / 10) ++
 -- "All plain decimal": a number of 64 bits has at most 20 digits
 abbrev pub decimal : ℕ → List ℕ
 decimal n = decimalOf 20 n
-
--- a word behind its space
-abbrev pub spaced : List ℕ → List ℕ
-spaced w = 32 ∷ w

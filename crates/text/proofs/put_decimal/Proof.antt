@@ -1,10 +1,10 @@
 -- The digits that the kit spells are those of the number.
 use mathlib.Core.Path.{_∙_}
 use native.Mathlib.Omega.{arith}
-use Rattle.words.proofs.Decimals.{decimal-is}
+use Rattle.text.proofs.Decimals.{decimal-is}
 use borrow.Author.Needs.{needs}
-use Rattle.words.proofs.text.put_decimal.Statement.{statement}
-use Rattle.words.proofs.text.put_decimal.Tie as tie
+use Rattle.text.proofs.put_decimal.Statement.{statement}
+use Rattle.text.proofs.put_decimal.Tie as tie
 
 returns : tie.Need-returns
 returns c =

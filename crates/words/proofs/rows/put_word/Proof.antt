@@ -1,16 +1,15 @@
 -- A space, and the word behind it.
-use Rattle.words.proofs.Laws.{then-puts, puts-nothing}
+use Rattle.text.proofs.Laws.{then-puts, puts-nothing}
 use borrow.Author.Needs.{needs}
-use Rattle.words.proofs.text.put_word.Statement.{statement}
-use Rattle.words.proofs.text.put_word.Tie as tie
+use Rattle.words.proofs.rows.put_word.Statement.{statement}
+use Rattle.words.proofs.rows.put_word.Tie as tie
 
 pub put-word-spec : {M : Type 1} → statement M
 put-word-spec =
     tie.close
     (tie.spec
-    (λ c. search needs) (λ c κs. search needs) (λ c κs. search needs) (λ c. search needs) (λ c κs. search needs)
-    (λ c κs. search needs) (λ c. search needs) (λ c κs. search needs) (λ c κs. search needs) (λ c κs. search needs)
-    (λ c. search needs) (λ c. search needs)
+    (λ c. search needs) (λ c κs. search needs) (λ c κs. search needs) (λ c. search needs) (λ c κs. search needs) (λ c κs. search needs)
+    (λ c. search needs) (λ c κs. search needs) (λ c κs. search needs) (λ c κs. search needs) (λ c. search needs) (λ c. search needs)
     (λ c. rw (c .before .before .before .before .before .before .before .before .before .word .given .1) (then-puts (c .before .before .before .before .before .before .put-byte .ensures) (c .before .before .put-name .ensures)))
     (λ c. search needs)
     (λ c. rw (c .before .before .before .before .before .before .before .before .before .word2 .given .1) (then-puts (c .before .before .before .before .before .before .put-byte2 .ensures) (c .before .before .put-decimal .ensures)))

@@ -7,7 +7,7 @@ use native.Mathlib.Numerals.{sub-one}
 use native.Mathlib.Omega.{arith}
 use borrow.Author.Tests.{lt-ltb, le-ltb}
 use Rattle.io.specs.Digits.{digits, Fewest}
-use Rattle.words.specs.Text.{decimal, decimalOf}
+use Rattle.text.specs.Text.{decimal, decimalOf}
 
 ten-pow : (k : ℕ) → 1 ≤ 10 ^ k
 ten-pow zero = omega arith

@@ -5,11 +5,12 @@ use native.Mathlib.Omega.{arith}
 use borrow.Author.Needs.{needs}
 use lib.ListN.{length, take}
 use lib.Seq.{take-length}
-use Rattle.words.specs.Text.{Puts}
+use Rattle.text.specs.Text.{Puts}
 use Rattle.words.specs.Words.{textOf}
-use Rattle.words.proofs.Laws.{puts-nothing, words-more}
-use Rattle.words.proofs.text.put_words.Statement.{statement}
-use Rattle.words.proofs.text.put_words.Tie as tie
+use Rattle.text.proofs.Laws.{puts-nothing}
+use Rattle.words.proofs.Laws.{words-more}
+use Rattle.words.proofs.rows.put_words.Statement.{statement}
+use Rattle.words.proofs.rows.put_words.Tie as tie
 
 abbrev Inv-loop : tie.InvT-loop
 Inv-loop out₀ at words next₀ i₀ out next i = (i ≤ 9) × (length out ≡ length out₀) × Puts (textOf (take i words)) out₀ at out next

@@ -4,12 +4,13 @@ use mathlib.Core.List.{List, [], _++_}
 use mathlib.Core.Path.{_≡_, refl, _∙_}
 use native.Mathlib.Omega.{arith}
 use lib.ListN.{length}
-use Rattle.words.specs.Text.{Puts}
+use Rattle.text.specs.Text.{Puts}
 use Rattle.words.specs.Words.{packed}
-use Rattle.words.proofs.Laws.{puts-nothing, letters-more, letters-all}
+use Rattle.text.proofs.Laws.{puts-nothing}
+use Rattle.words.proofs.Laws.{letters-more, letters-all}
 use borrow.Author.Needs.{needs}
-use Rattle.words.proofs.text.put_name.Statement.{statement}
-use Rattle.words.proofs.text.put_name.Tie as tie
+use Rattle.words.proofs.rows.put_name.Statement.{statement}
+use Rattle.words.proofs.rows.put_name.Tie as tie
 
 abbrev Inv-loop : tie.InvT-loop
 Inv-loop out₀ at next₀ left₀ out next left =
