@@ -9,7 +9,7 @@ ghost use Rattle.duration.specs.Rules.{durationBaseTime, durationTime, p
 ghost use Rattle.duration.specs.Answer.{timeFound, timeMore, durationFound, durationMore, durationTold};
 ghost use Rattle.duration.specs.Items.{itemAt, partOf, absentPart, partAt, isCut, unlessTooBig, timeParts, recordOf, allParts};
 use parser::Mark;
-use parser::Run;
+use runs::Run;
 use types::Duration;
 use types::Refusal;
 use types::Verdict;
@@ -77,7 +77,7 @@ pub struct DurationRead {
 fn duration_item(s: &[u8], at: usize) -> Item
     ensures { λ r. ⌜ r ≡ itemAt (now (s .entry)) at ⌝ }
 {
-    let found = parser::take_digits(s, at);
+    let found = runs::take_digits(s, at);
     match found {
         Run::Got { value, next, more } => {
             if more {

@@ -9,8 +9,6 @@ use Rattle.parser.specs.declared.Number.the-variants as number
 use Rattle.parser.specs.declared.Part.{Part}
 use Rattle.parser.specs.declared.Signed.{Signed}
 use Rattle.parser.specs.declared.Signed.the-variants as sign
-use Rattle.parser.specs.declared.Run.{Run}
-use Rattle.parser.specs.declared.Run.the-variants as run
 
 abbrev pub markFound : Mark → Found Unit
 markFound (mark.Got n) = got tt n
@@ -47,18 +45,6 @@ signMore (sign.Got m n) = false
 signMore sign.Wrong = false
 signMore sign.Cut = true
 
-abbrev pub runFound : Run → Found ℕ
-runFound (run.Got v n m) = got v n
-runFound run.TooBig = stop 2
-runFound run.Wrong = no
-runFound run.Cut = no
-
-abbrev pub runMore : Run → Bool
-runMore (run.Got v n m) = m
-runMore run.TooBig = false
-runMore run.Wrong = false
-runMore run.Cut = true
-
 -- the place after an optional item
 abbrev pub placeAfter : {A : Type 0} → ℕ → Found A → ℕ
 placeAfter at (got a n) = n
@@ -70,9 +56,3 @@ abbrev pub orLeftOut : ℕ → Number → Part
 orLeftOut at (number.Got v n) = record { value = v; next = n; more = false }
 orLeftOut at number.Wrong = record { value = 0; next = at; more = false }
 orLeftOut at number.Cut = record { value = 0; next = at; more = true }
-
--- a run of one digit or more, or of none, that the end of the input ends, or another byte
-abbrev pub foundRun : Bool → Bool → ℕ → ℕ → Run
-foundRun true more v n = run.Got v n more
-foundRun false true v n = run.Cut
-foundRun false false v n = run.Wrong

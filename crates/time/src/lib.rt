@@ -8,7 +8,7 @@ ghost use Rattle.time.specs.Answer.{clockFound, clockMore, midnightAt, o
 use offset::OffsetFound;
 use parser::Mark;
 use parser::Number;
-use parser::Run;
+use runs::Run;
 use types::Refusal;
 use types::Time;
 use types::TimeOffset;
@@ -75,7 +75,7 @@ fn time_millisecond(s: &[u8], at: usize, minute: u32, second: u32, more: bool) -
     let mark = parser::one_of(s, at, 44, 46);
     match mark {
         Mark::Got { next } => {
-            let fraction = parser::fraction_nanosecond(s, next);
+            let fraction = runs::fraction_nanosecond(s, next);
             match fraction {
                 Run::Got {
                     value,

@@ -8,13 +8,15 @@ use lib.ListN.{length, getD, take, drop, replicate}
 use lib.Dec.{ltb, leb}
 use borrow.Author.Needs.{needs}
 use borrow.Author.Tests.{ltb-true, ltb-false, lt-ltb, le-leb, lt-leb}
 use Rattle.parser.specs.Reading.{Says, got}
 use Rattle.parser.specs.Digits.{fraction, runAt, digits, number, numberFrom, nanoseconds, atTheEnd}
-use Rattle.parser.specs.Read.{foundRun, runFound, runMore}
+use Rattle.runs.specs.Read.{foundRun, runFound, runMore}
 use Rattle.parser.proofs.Fields.{DigitAt, digit-at, below-digits, above-digits}
-use Rattle.parser.proofs.Runs.{run-step, run-other, run-end, number-grows, nanoseconds-small, found-run-says, end-is, end-is-not}
-use Rattle.parser.proofs.fraction_nanosecond.Statement.{statement}
-use Rattle.parser.proofs.fraction_nanosecond.Tie as tie
+use Rattle.parser.proofs.Runs.{run-step, run-other, run-end, number-grows, end-is, end-is-not}
+use Rattle.runs.proofs.Along.{found-run-says}
+use Rattle.runs.proofs.Nanoseconds.{nanoseconds-small}
+use Rattle.runs.proofs.fraction_nanosecond.Statement.{statement}
+use Rattle.runs.proofs.fraction_nanosecond.Tie as tie
 
 -- what is left to read after l digits
 record Nine (s : List ℕ) (at value next l : ℕ) : Type 0 where

@@ -4,11 +4,11 @@ use mathlib.Core.Path.{_≡_, ap}
 use native.Mathlib.Omega.{arith}
 use lib.ListN.{length}
 use borrow.Author.Needs.{needs}
 use Rattle.parser.specs.Digits.{runAt}
 use Rattle.parser.proofs.Fields.{digit-at, below-digits, above-digits}
 use Rattle.parser.proofs.Runs.{run-step, run-other, run-end}
-use Rattle.parser.proofs.digits_end.Statement.{statement}
-use Rattle.parser.proofs.digits_end.Tie as tie
+use Rattle.runs.proofs.digits_end.Statement.{statement}
+use Rattle.runs.proofs.digits_end.Tie as tie
 
 abbrev Inv-loop : tie.InvT-loop
 Inv-loop s at next₀ next = next + length (runAt s next) ≡ at + length (runAt s at)

@@ -1,7 +1,7 @@
 -- Each return by the tests that led there.
 use borrow.Author.Tests.{lt-ltb, le-ltb}
-use Rattle.parser.proofs.found_run.Statement.{statement}
-use Rattle.parser.proofs.found_run.Tie as tie
+use Rattle.runs.proofs.found_run.Statement.{statement}
+use Rattle.runs.proofs.found_run.Tie as tie
 
 returns : tie.Need-returns
 returns c = simp (lt-ltb _ _ (c .if1 .taken))

@@ -8,13 +8,14 @@ use lib.ListN.{length, getD}
 use lib.Dec.{ltb, leb}
 use borrow.Author.Needs.{needs}
 use borrow.Author.Tests.{le-leb, lt-leb}
 use Rattle.parser.specs.Reading.{Says, no, got, stop, and, pick}
 use Rattle.parser.specs.Digits.{run, runAt, number, numberFrom, ofRun, atTheEnd}
-use Rattle.parser.specs.Read.{foundRun, runFound, runMore}
+use Rattle.runs.specs.Read.{foundRun, runFound, runMore}
 use Rattle.parser.proofs.Fields.{DigitAt, digit-at, below-digits, above-digits, and-right}
-use Rattle.parser.proofs.Runs.{Along, along-start, along-step, run-step, run-other, run-end, number-grows, found-run-says, end-is, end-is-not}
-use Rattle.parser.proofs.take_digits.Statement.{statement}
-use Rattle.parser.proofs.take_digits.Tie as tie
+use Rattle.parser.proofs.Runs.{run-step, run-other, run-end, number-grows, end-is, end-is-not}
+use Rattle.runs.proofs.Along.{Along, along-start, along-step, found-run-says}
+use Rattle.runs.proofs.take_digits.Statement.{statement}
+use Rattle.runs.proofs.take_digits.Tie as tie
 
 -- the run has ended at `next`, and its number is within the limit
 ended : (s : List ℕ) (at value next : ℕ) (more : Bool) → Along s at value next → value < 4294967296 → runAt s next ≡ [] → atTheEnd s at ≡ more → Says run s at (runFound (foundRun (ltb at next) more value next)) (runMore (foundRun (ltb at next) more value next))

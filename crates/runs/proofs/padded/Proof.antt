@@ -4,10 +4,10 @@ use mathlib.Core.Path.{_≡_, refl, sym, ap, _∙_}
 use native.Mathlib.Omega.{arith}
 use native.Mathlib.Nat.{add-zero}
 use lib.ListN.{replicate}
 use Rattle.parser.specs.Digits.{numberFrom}
 use Rattle.parser.proofs.Runs.{number-grows}
-use Rattle.parser.proofs.padded.Statement.{statement}
-use Rattle.parser.proofs.padded.Tie as tie
+use Rattle.runs.proofs.padded.Statement.{statement}
+use Rattle.runs.proofs.padded.Tie as tie
 
 abbrev Inv-loop : tie.InvT-loop
 Inv-loop value l result₀ n₀ result n = numberFrom result (replicate (9 - n) 48) ≡ numberFrom value (replicate (9 - l) 48)

@@ -1,0 +1,24 @@
+-- The code's answers as what `Reading` speaks of.
+use Prim.Native.Nat.{ℕ}
+use mathlib.Core.Bool.{Bool, true, false}
+use Rattle.parser.specs.Reading.{Found, no, got, stop}
+use Rattle.runs.specs.declared.Run.{Run}
+use Rattle.runs.specs.declared.Run.the-variants as run
+
+abbrev pub runFound : Run → Found ℕ
+runFound (run.Got v n m) = got v n
+runFound run.TooBig = stop 2
+runFound run.Wrong = no
+runFound run.Cut = no
+
+abbrev pub runMore : Run → Bool
+runMore (run.Got v n m) = m
+runMore run.TooBig = false
+runMore run.Wrong = false
+runMore run.Cut = true
+
+-- a run of one digit or more, or of none, that the end of the input ends, or another byte
+abbrev pub foundRun : Bool → Bool → ℕ → ℕ → Run
+foundRun true more v n = run.Got v n more
+foundRun false true v n = run.Cut
+foundRun false false v n = run.Wrong

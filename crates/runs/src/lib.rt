@@ -1,0 +1,116 @@
+// Digit runs and the fraction, each read from a place of the input to its last digit (parser.rs). A place past the end is the end,
+// and nothing is asked of a caller.
+ghost use mathlib.Core.Path.{_≡_};
+ghost use Prim.Native.Nat.{_+_, _-_, _^_, _<_};
+ghost use lib.Dec.{ltb};
+ghost use lib.ListN.{length, replicate};
+ghost use Rattle.parser.specs.Reading.{Says};
+ghost use Rattle.parser.specs.Digits.{run, fraction, runAt, numberFrom};
+ghost use Rattle.runs.specs.Read.{foundRun, runFound, runMore};
+
+// What a digit run finds. `more`: it reaches the end of the input, where a digit could still be added.
+pub enum Run {
+    Got { value: u32, next: usize, more: bool },
+    TooBig,
+    Wrong,
+    Cut,
+}
+
+// The largest number that a digit run may have.
+pub const LIMIT: u64 = 4294967295;
+
+// What a run from `at` to `next` is. `more`: the input ends there.
+fn found_run(at: usize, next: usize, value: u32, more: bool) -> Run
+    ensures { λ r. ⌜ r ≡ foundRun (ltb at next) more value next ⌝ }
+{
+    if at < next {
+        return Run::Got { value, next, more };
+    }
+    if more { Run::Cut } else { Run::Wrong }
+}
+
+// A run of one digit or more, with any number of leading zeros.
+pub fn take_digits(s: &[u8], at: usize) -> Run
+    ensures { λ r. ⌜ Says run (now (s .entry)) at (runFound r) (runMore r) ⌝ }
+{
+    let mut value: u32 = 0;
+    let mut next = at;
+    while next < s.len() {
+        let b = s[next];
+        if b < 48 {
+            return found_run(at, next, value, false);
+        }
+        if 57 < b {
+            return found_run(at, next, value, false);
+        }
+        let wide = (value as u64) * 10 + ((b - 48) as u64);
+        if LIMIT < wide {
+            return Run::TooBig;
+        }
+        value = wide as u32;
+        next = next + 1;
+    }
+    found_run(at, next, value, true)
+}
+
+// The place after the digits that stand from `at` on.
+fn digits_end(s: &[u8], at: usize) -> usize
+    ensures { λ r. ⌜ r ≡ at + length (runAt (now (s .entry)) at) ⌝ }
+{
+    let mut next = at;
+    while next < s.len() {
+        let b = s[next];
+        if b < 48 {
+            return next;
+        }
+        if 57 < b {
+            return next;
+        }
+        next = next + 1;
+    }
+    next
+}
+
+// The number of `l` digits with zeros put behind them, nine in all.
+fn padded(value: u32, l: usize) -> u32
+    requires { ⌜ numberFrom value (replicate (9 - l) 48) < 2 ^ 32 ⌝ }
+    ensures { λ r. ⌜ r ≡ numberFrom value (replicate (9 - l) 48) ⌝ }
+{
+    let mut result = value;
+    let mut n = l;
+    while n < 9 {
+        result = result * 10;
+        n = n + 1;
+    }
+    result
+}
+
+// The fraction of a second after its comma or point, in nanoseconds: digits past the ninth are read and dropped.
+pub fn fraction_nanosecond(s: &[u8], at: usize) -> Run
+    ensures { λ r. ⌜ Says fraction (now (s .entry)) at (runFound r) (runMore r) ⌝ }
+{
+    let mut value: u32 = 0;
+    let mut next = at;
+    let mut l: usize = 0;
+    while l < 9 {
+        if s.len() <= next {
+            return found_run(at, next, padded(value, l), true);
+        }
+        let b = s[next];
+        if b < 48 {
+            return found_run(at, next, padded(value, l), false);
+        }
+        if 57 < b {
+            return found_run(at, next, padded(value, l), false);
+        }
+        value = value * 10 + ((b - 48) as u32);
+        next = next + 1;
+        l = l + 1;
+    }
+    let end = digits_end(s, next);
+    Run::Got {
+        value,
+        next: end,
+        more: s.len() <= end,
+    }
+}
