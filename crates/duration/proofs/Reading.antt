@@ -14,13 +14,15 @@ use Rattle.parser.proofs.Says.{says-map, says-verify, says-opt, says-seq-got}
 use Rattle.parser.specs.Fields.{orZero}
 use Rattle.duration.specs.Rules.{part, present, TimeParts, someTime, timeOf, durationBaseTime, durationTime}
 use Rattle.duration.specs.Answer.{timeFound, timeMore}
-use Rattle.duration.specs.Items.{itemAt, here, past, absentPart, partAt, isCut, unlessTooBig, timeParts}
+use Rattle.parts.specs.Items.{itemAt, here, past, absentPart, partAt}
+use Rattle.duration.specs.Items.{isCut, unlessTooBig, timeParts}
 use Rattle.duration.specs.declared.DurationTimeParts.{DurationTimeParts}
 use Rattle.duration.specs.declared.TimeFound.{TimeFound}
-use Rattle.duration.specs.declared.Part.{Part}
-use Rattle.duration.specs.declared.Item.{Item}
-use Rattle.duration.specs.declared.Item.the-variants as item
-use Rattle.duration.proofs.Items.{Heeds, part-heeds, optional-part, last-part, map-pick, further, no-letter, end-item}
+use Rattle.parts.specs.declared.Part.{Part}
+use Rattle.parts.specs.declared.Item.{Item}
+use Rattle.parts.specs.declared.Item.the-variants as item
+use Rattle.parts.proofs.Items.{no-letter, end-item}
+use Rattle.duration.proofs.Items.{Heeds, part-heeds, optional-part, last-part, map-pick, further}
 use Rattle.duration.proofs.Laws.{clock, from-seconds, from-minutes}
 
 -- ---- H, M and S

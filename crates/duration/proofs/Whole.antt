@@ -12,11 +12,12 @@ use Rattle.parser.proofs.Says.{says-map, says-verify, says-opt, says-seq-got, s
 use Rattle.parser.specs.Fields.{orZero}
 use Rattle.duration.specs.Rules.{present, durationTime, partsRule, somePart, durationOf, duration}
 use Rattle.duration.specs.Answer.{timeFound, timeMore, durationFound, durationMore}
-use Rattle.duration.specs.Items.{itemAt, here, past, partAt, allParts}
+use Rattle.parts.specs.Items.{itemAt, here, past, partAt}
+use Rattle.duration.specs.Items.{allParts}
 use Rattle.duration.specs.declared.DurationTimeParts.{DurationTimeParts}
 use Rattle.duration.specs.declared.TimeFound.{TimeFound}
 use Rattle.duration.specs.declared.DurationFound.{DurationFound}
-use Rattle.duration.specs.declared.Part.{Part}
+use Rattle.parts.specs.declared.Part.{Part}
 use Rattle.duration.proofs.Items.{Heeds, part-heeds, optional-part, map-pick, further}
 use Rattle.duration.proofs.Laws.{or-true, parts, from-time, from-days, from-weeks, from-months}
 use Rattle.duration.proofs.Reading.{or-false, or-lt, time-heeds}

@@ -1,33 +1,18 @@
 // Durations (duration.rs).
-ghost use Prim.Native.Nat.{_+_, _<_, _≤_};
-ghost use lib.ListN.{length, getD};
 ghost use mathlib.Core.Path.{_≡_};
 ghost use Rattle.parser.specs.Reading.{no, verify, map, Says};
 ghost use Rattle.types.specs.Numbers.{numberOf};
 ghost use Rattle.parser.specs.Answer.{refused, Begins, Ended, Rest};
 ghost use Rattle.duration.specs.Rules.{durationBaseTime, durationTime, partsRule, somePart, durationOf, duration};
 ghost use Rattle.duration.specs.Answer.{timeFound, timeMore, durationFound, durationMore, durationTold};
-ghost use Rattle.duration.specs.Items.{itemAt, partOf, absentPart, partAt, isCut, unlessTooBig, timeParts, recordOf, allParts};
+ghost use Rattle.parts.specs.Items.{absentPart};
+ghost use Rattle.duration.specs.Items.{isCut, unlessTooBig, timeParts, recordOf, allParts};
 use parser::Mark;
-use runs::Run;
+use parts::Item;
+use parts::Part;
 use types::Duration;
 use types::Refusal;
 use types::Verdict;
-
-// What stands at a place: a number with the byte behind it; a number above the limit; no digit; or an end of the input
-// where a part could still be written.
-enum Item {
-    Number { value: u32, letter: u8, next: usize },
-    TooBig,
-    Wrong,
-    Cut,
-}
-
-// An optional part: its number, or 0, and the place after it, which lies further on exactly where the part is there.
-struct Part {
-    value: u32,
-    next: usize,
-}
 
 // Hour, minute and second parts of a duration's time portion
 pub struct DurationTimeParts {
@@ -71,188 +56,6 @@ pub enum DurationAnswer {
 pub struct DurationRead {
     pub answer: DurationAnswer,
     pub verdict: Verdict,
-}
-
-// The digit run at a place and the byte behind it.
-fn duration_item(s: &[u8], at: usize) -> Item
-    ensures { λ r. ⌜ r ≡ itemAt (now (s .entry)) at ⌝ }
-{
-    let found = runs::take_digits(s, at);
-    match found {
-        Run::Got { value, next, more } => {
-            if more {
-                return Item::Cut;
-            }
-            Item::Number {
-                value,
-                letter: s[next],
-                next: next + 1,
-            }
-        }
-        Run::TooBig => Item::TooBig,
-        Run::Wrong => Item::Wrong,
-        Run::Cut => Item::Cut,
-    }
-}
-
-fn absent(at: usize) -> Part
-    ensures { λ r. ⌜ r ≡ absentPart at ⌝ }
-{
-    Part { value: 0, next: at }
-}
-
-// The part of a letter, by its whole digit run.
-fn long_part(s: &[u8], at: usize, letter: u8) -> Part
-    ensures { λ r. ⌜ r ≡ partAt (now (s .entry)) at letter ⌝ }
-{
-    let item = duration_item(s, at);
-    match item {
-        Item::Number {
-            value,
-            letter: found,
-            next,
-        } => {
-            if found == letter {
-                return Part { value, next };
-            }
-            absent(at)
-        }
-        Item::TooBig => absent(at),
-        Item::Wrong => absent(at),
-        Item::Cut => absent(at),
-    }
-}
-
-// What `two_part` gives where the part is not there.
-const ABSENT: u32 = 254;
-
-// The number of the part of a letter, where it has two digits; ABSENT where the third byte tells that it is not there; and
-// NO_NUMBER where its whole run has to be read.
-fn two_part(s: &[u8], at: usize, letter: u8) -> u32
-    requires { ⌜ getD (now s) (at + 1) 0 ≤ 57 ⌝ }
-    ensures inside { λ r. ⌜ (r < 100 → at + 3 ≤ length (now (s .entry))) ⌝ }
-    ensures there { λ r. ⌜ (r < 100 → partAt (now (s .entry)) at letter ≡ partOf r (at + 3)) ⌝ }
-    ensures absent { λ r. ⌜ (r ≡ 254 → partAt (now (s .entry)) at letter ≡ absentPart at) ⌝ }
-{
-    if letter <= 57 {
-        return looks::NO_NUMBER;
-    }
-    if s.len() < 3 {
-        return looks::NO_NUMBER;
-    }
-    if s.len() - 3 < at {
-        return looks::NO_NUMBER;
-    }
-    let third = s[at + 2];
-    if third == letter {
-        return looks::two_digits(s[at], s[at + 1], 0, 99);
-    }
-    if third <= 57 {
-        looks::NO_NUMBER
-    } else {
-        ABSENT
-    }
-}
-
-// The part of a letter, where more than one digit may have to be read.
-fn later_part(s: &[u8], at: usize, letter: u8) -> Part
-    requires { ⌜ getD (now s) (at + 1) 0 ≤ 57 ⌝ }
-    ensures { λ r. ⌜ r ≡ partAt (now (s .entry)) at letter ⌝ }
-{
-    let two = two_part(s, at, letter);
-    if two < 100 {
-        return Part {
-            value: two,
-            next: at + 3,
-        };
-    }
-    if two == ABSENT {
-        return absent(at);
-    }
-    long_part(s, at, letter)
-}
-
-// The part of a letter. A single digit is decided by the byte behind it.
-fn duration_part(s: &[u8], at: usize, letter: u8) -> Part
-    ensures { λ r. ⌜ r ≡ partAt (now (s .entry)) at letter ⌝ }
-{
-    if s.len() < 2 {
-        return absent(at);
-    }
-    if s.len() - 2 < at {
-        return absent(at);
-    }
-    let b = s[at] as u32;
-    if b < 48 {
-        return absent(at);
-    }
-    if 57 < b {
-        return absent(at);
-    }
-    let end = s[at + 1];
-    if end == letter {
-        if 57 < letter {
-            return Part {
-                value: b - 48,
-                next: at + 2,
-            };
-        }
-        return later_part(s, at, letter);
-    }
-    if 57 < end {
-        return absent(at);
-    }
-    later_part(s, at, letter)
-}
-
-//    dur-year          = 1*DIGIT "Y" [dur-month]
-fn duration_part_year(s: &[u8], at: usize) -> Part
-    ensures { λ r. ⌜ r ≡ partAt (now (s .entry)) at 89 ⌝ }
-{
-    duration_part(s, at, 89)
-}
-
-//    dur-month         = 1*DIGIT "M" [dur-day]
-fn duration_part_month(s: &[u8], at: usize) -> Part
-    ensures { λ r. ⌜ r ≡ partAt (now (s .entry)) at 77 ⌝ }
-{
-    duration_part(s, at, 77)
-}
-
-//    dur-week          = 1*DIGIT "W"
-fn duration_part_week(s: &[u8], at: usize) -> Part
-    ensures { λ r. ⌜ r ≡ partAt (now (s .entry)) at 87 ⌝ }
-{
-    duration_part(s, at, 87)
-}
-
-//    dur-day           = 1*DIGIT "D"
-fn duration_part_day(s: &[u8], at: usize) -> Part
-    ensures { λ r. ⌜ r ≡ partAt (now (s .entry)) at 68 ⌝ }
-{
-    duration_part(s, at, 68)
-}
-
-//    dur-hour          = 1*DIGIT "H" [dur-minute]
-//    dur-time          = "T" (dur-hour / dur-minute / dur-second)
-fn duration_part_hour(s: &[u8], at: usize) -> Part
-    ensures { λ r. ⌜ r ≡ partAt (now (s .entry)) at 72 ⌝ }
-{
-    duration_part(s, at, 72)
-}
-
-//    dur-minute        = 1*DIGIT "M" [dur-second]
-fn duration_part_minute(s: &[u8], at: usize) -> Part
-    ensures { λ r. ⌜ r ≡ partAt (now (s .entry)) at 77 ⌝ }
-{
-    duration_part(s, at, 77)
-}
-
-//    dur-second        = 1*DIGIT "S"
-fn duration_part_second(s: &[u8], at: usize) -> Part
-    ensures { λ r. ⌜ r ≡ partAt (now (s .entry)) at 83 ⌝ }
-{
-    duration_part(s, at, 83)
 }
 
 // What the parts H and M from a place on make without S: at least one is there.
@@ -301,10 +104,10 @@ fn time_parts(at: usize, h: Part, m: Part, last: Item) -> TimeFound
 pub fn duration_base_time(s: &[u8], at: usize) -> TimeFound
     ensures { λ r. ⌜ Says durationBaseTime (now (s .entry)) at (timeFound r) (timeMore r) ⌝ }
 {
-    let h = duration_part_hour(s, at);
-    let m = duration_part_minute(s, h.next);
+    let h = parts::duration_part_hour(s, at);
+    let m = parts::duration_part_minute(s, h.next);
     let before = m.next;
-    let x = duration_part_second(s, before);
+    let x = parts::duration_part_second(s, before);
     let next = x.next;
     if before < next {
         let value = DurationTimeParts {
@@ -318,7 +121,7 @@ pub fn duration_base_time(s: &[u8], at: usize) -> TimeFound
             more: false,
         };
     }
-    time_parts(at, h, m, duration_item(s, before))
+    time_parts(at, h, m, parts::duration_item(s, before))
 }
 
 // [T][H][M][S]: parses time portion of a duration
@@ -394,10 +197,10 @@ fn all_parts(at: usize, y: Part, mo: Part, w: Part, d: Part, time: TimeFound) ->
 fn duration_parts(s: &[u8], at: usize) -> DurationFound
     ensures { λ r. ⌜ Says (map durationOf (verify somePart partsRule)) (now (s .entry)) at (durationFound r) (durationMore r) ⌝ }
 {
-    let y = duration_part_year(s, at);
-    let mo = duration_part_month(s, y.next);
-    let w = duration_part_week(s, mo.next);
-    let d = duration_part_day(s, w.next);
+    let y = parts::duration_part_year(s, at);
+    let mo = parts::duration_part_month(s, y.next);
+    let w = parts::duration_part_week(s, mo.next);
+    let d = parts::duration_part_day(s, w.next);
     all_parts(at, y, mo, w, d, duration_time(s, d.next))
 }
 

@@ -2,9 +2,9 @@
 use mathlib.Core.Path.{sym, _∙_}
 use native.Mathlib.Omega.{arith}
 use borrow.Author.Needs.{needs}
-use Rattle.duration.proofs.Items.{item-is, run-inside}
-use Rattle.duration.proofs.duration_item.Statement.{statement}
-use Rattle.duration.proofs.duration_item.Tie as tie
+use Rattle.parts.proofs.Items.{item-is, run-inside}
+use Rattle.parts.proofs.duration_item.Statement.{statement}
+use Rattle.parts.proofs.duration_item.Tie as tie
 
 take-digits-requires : tie.Need-take-digits-requires
 take-digits-requires c κs = search needs

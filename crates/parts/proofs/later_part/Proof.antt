@@ -1,8 +1,8 @@
 -- By what two digits tell, and else by the whole run.
 use mathlib.Core.Path.{sym, _∙_}
 use borrow.Author.Needs.{needs}
-use Rattle.duration.proofs.later_part.Statement.{statement}
-use Rattle.duration.proofs.later_part.Tie as tie
+use Rattle.parts.proofs.later_part.Statement.{statement}
+use Rattle.parts.proofs.later_part.Tie as tie
 
 two-part-requires : tie.Need-two-part-requires
 two-part-requires c κs = search needs

@@ -5,10 +5,10 @@ use native.Mathlib.Omega.{arith}
 use lib.ListN.{length}
 use borrow.Author.Tests.{eq-eqb, ne-eqb}
 use Rattle.parser.proofs.Fields.{digit-at, below-digits, above-digits}
-use Rattle.duration.proofs.Items.{short-part, other-item, digit-item}
+use Rattle.parts.proofs.Items.{short-part, other-item, digit-item}
 use borrow.Author.Needs.{needs}
-use Rattle.duration.proofs.duration_part.Statement.{statement}
-use Rattle.duration.proofs.duration_part.Tie as tie
+use Rattle.parts.proofs.duration_part.Statement.{statement}
+use Rattle.parts.proofs.duration_part.Tie as tie
 
 absent-requires : tie.Need-absent-requires
 absent-requires c κs = search needs

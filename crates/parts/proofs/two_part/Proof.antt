@@ -9,11 +9,11 @@ use lib.Dec.{eqb}
 use borrow.Author.Tests.{ne-eqb}
 use Rattle.looks.specs.Digits.{twoDigits}
 use Rattle.looks.proofs.Two.{two-is, two-ends, two-some}
-use Rattle.duration.specs.Items.{partOf, absentPart, partAt}
-use Rattle.duration.proofs.Items.{two-digits-there, third-tells}
+use Rattle.parts.specs.Items.{partOf, absentPart, partAt}
+use Rattle.parts.proofs.Items.{two-digits-there, third-tells}
 use borrow.Author.Needs.{needs}
-use Rattle.duration.proofs.two_part.Statement.{statement}
-use Rattle.duration.proofs.two_part.Tie as tie
+use Rattle.parts.proofs.two_part.Statement.{statement}
+use Rattle.parts.proofs.two_part.Tie as tie
 
 -- what the number of two digits tells
 by-two : (s : List ℕ) (at c r : ℕ) → at + 3 ≤ length s → 57 < c → getD s (at + 2) 0 ≡ c → r ≡ twoDigits (getD s at 0) (getD s (at + 1) 0) 0 99 → (r < 100 → at + 3 ≤ length s) × ((r < 100 → partAt s at c ≡ partOf r (at + 3)) × (r ≡ 254 → partAt s at c ≡ absentPart at))

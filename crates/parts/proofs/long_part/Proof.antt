@@ -2,8 +2,8 @@
 use mathlib.Core.Path.{sym, _∙_}
 use borrow.Author.Tests.{eq-eqb, ne-eqb}
 use borrow.Author.Needs.{needs}
-use Rattle.duration.proofs.long_part.Statement.{statement}
-use Rattle.duration.proofs.long_part.Tie as tie
+use Rattle.parts.proofs.long_part.Statement.{statement}
+use Rattle.parts.proofs.long_part.Tie as tie
 
 duration-item-requires : tie.Need-duration-item-requires
 duration-item-requires c κs = search needs
