@@ -21,8 +21,8 @@ use Rattle.words.specs.declared.word.Word.{Word}
 use Rattle.words.specs.declared.word.Word.the-variants as word
 use Rattle.text.specs.Text.{decimal, decimalOf}
 use Rattle.words.specs.Words.{lettersOf, wordText, textOf}
-use Rattle.words.specs.Records.{headWords, dateWords, firstWords, thenWords, recordOrDash}
-use Rattle.words.specs.Line.{Gives, questionOf, AnswersTo, AnswersLine}
+use Rattle.words.specs.Records.{headWords, dateWords}
+use Rattle.reply.specs.Line.{firstWords, thenWords, recordOrDash, Gives, questionOf, AnswersTo, AnswersLine}
 use Rattle.text.proofs.Laws.{puts-fits}
 use Rattle.answers.specs.Stream.{Added}
 
@@ -88,18 +88,18 @@ answer-short (Names k) s t a =
 answer-short Unknown s t a = rw a (omega (arith, letters-short name.Unknown))
 
 line-short : (l t : List ℕ) → AnswersLine l t → length t ≤ 512
-line-short l t a = rw (a .1 .1) (simp length-append (omega (arith, answer-short (questionOf l) _ (a .0) (a .1 .0))))
+line-short l t a = rw (a .ends) (simp length-append (omega (arith, answer-short (questionOf l) _ (a .answer) (a .answers))))
 
 -- So where there is that much room, all of the answer is there.
 pub added : {l old new : List ℕ} {at next : ℕ} → at + 512 ≤ length old → Gives (AnswersLine l) old at new next → Added l old at new next
 added {l} {old} {new} {at} {next} room g =
-    let t = g .0 in
-    let short = line-short l t (g .1 .0) in
-    let whole = puts-fits (g .1 .1) (omega arith) in
+    let t = g .text in
+    let short = line-short l t (g .answer) in
+    let whole = puts-fits (g .puts) (omega arith) in
     let seam : length (take at old ++ t) ≡ at + length t = length-append (take at old) t ∙ ap (λ (n : ℕ). n + length t) (length-take-le at old (omega arith)) in
     record {
       text = t;
-      answers = g .1 .0;
+      answers = g .answer;
       short = short;
       place = whole .0;
       front = rw (whole .0, whole .1) (take-at (take at old ++ t) _ (at + length t) seam);

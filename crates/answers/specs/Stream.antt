@@ -3,7 +3,7 @@ use Prim.Native.Nat.{ℕ, _+_, _≤_}
 use mathlib.Core.List.{List, _++_}
 use mathlib.Core.Path.{_≡_}
 use lib.ListN.{length, take}
-use Rattle.words.specs.Line.{AnswersLine}
+use Rattle.reply.specs.Line.{AnswersLine}
 use Rattle.answers.specs.declared.Step.{Step}
 use Rattle.answers.specs.declared.Step.the-variants.{Held, Done}
 

@@ -10,7 +10,7 @@ ghost use Rattle.answers.specs.Stream.{heldIn, Added};
 use libc::STDIN_FILENO;
 use libc::STDOUT_FILENO;
 use lines::Ended;
-use words::answer::answer_line;
+use reply::answer_line;
 
 // A line is known from its letter, its space, its 200 bytes, and one byte more, which shows a longer line.
 const LIMIT: usize = 203;

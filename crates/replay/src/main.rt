@@ -81,7 +81,7 @@ fn answer_to(line: &[u8], tab: usize, question: &mut [u8], out: &mut [u8]) -> us
     question[0] = line[0];
     question[1] = 32;
     let n = put_text(line, tab, question);
-    words::answer::answer_line(&question[..n], out, 0)
+    reply::answer_line(&question[..n], out, 0)
 }
 
 // Whether our answer, up to its byte 10, is the expected one with a verdict for its third word.

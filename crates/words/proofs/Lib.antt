@@ -1,4 +1,2 @@
 pub mod Laws
 pub mod Sizes
-pub mod Asked
-pub mod Answers

@@ -1,7 +1,6 @@
 -- The words of each record, and those in front of it.
 use Prim.Native.Nat.{ℕ}
-use mathlib.Core.List.{List, [], _∷_, _++_}
-use mathlib.Core.Option.{Option, some, none}
+use mathlib.Core.List.{List, [], _∷_}
 use Rattle.types.specs.declared.Verdict.{Verdict}
 use Rattle.types.specs.declared.Verdict.the-variants.{Settled, Open}
 use Rattle.types.specs.declared.Offset.{Offset}
@@ -12,8 +11,6 @@ use Rattle.types.specs.declared.Date.{Date}
 use Rattle.types.specs.declared.Date.the-variants.{YMD, Week, Ordinal}
 use Rattle.types.specs.declared.Duration.{Duration}
 use Rattle.types.specs.Sums.{minutesInAll, secondsOf}
-use Rattle.kinds.specs.declared.answer.Record.{Record}
-use Rattle.kinds.specs.declared.answer.Record.the-variants as record-of
 use Rattle.words.specs.Words.{signedWord}
 use Rattle.words.specs.declared.word.Name.the-variants as name
 use Rattle.words.specs.declared.word.Word.{Word}
@@ -53,26 +50,3 @@ abbrev pub durationWords : Duration → List Word
 durationWords v =
     Named name.Duration ∷ Number (v .years) ∷ Number (v .months) ∷ Number (v .weeks) ∷ Number (v .days) ∷ Number (v .hours)
     ∷ Number (v .minutes) ∷ Number (v .seconds) ∷ Number (secondsOf v) ∷ []
-
--- "for a date-time the date's words, then the time's"
-abbrev pub firstWords : Record → List Word
-firstWords (record-of.Date v) = dateWords v
-firstWords (record-of.Time v) = timeWords v
-firstWords (record-of.Offset v) = offsetWords v
-firstWords (record-of.Stamp v) = dateWords (v .date)
-firstWords (record-of.Duration v) = durationWords v
-
-abbrev pub thenWords : Record → List Word
-thenWords (record-of.Stamp v) = timeWords (v .time)
-thenWords (record-of.Date v) = []
-thenWords (record-of.Time v) = []
-thenWords (record-of.Offset v) = []
-thenWords (record-of.Duration v) = []
-
-abbrev pub recordWords : Record → List Word
-recordWords r = firstWords r ++ thenWords r
-
--- "RECORD: `-` where B is not 0"
-abbrev pub recordOrDash : Option Record → List Word
-recordOrDash (some v) = recordWords v
-recordOrDash none = Named name.Dash ∷ []

@@ -9,11 +9,12 @@ use Rattle.kinds.specs.declared.answer.Answer.{Answer}
 use Rattle.kinds.specs.declared.answer.Record.{Record}
 use Rattle.kinds.specs.Kinds.{ruleOf, bound, told}
 use Rattle.text.specs.Text.{Puts, decimal}
 use Rattle.words.specs.Words.{textOf}
-use Rattle.words.specs.Records.{headWords, firstWords, thenWords, recordWords, recordOrDash}
-use Rattle.words.specs.Line.{Answered, Gives}
+use Rattle.words.specs.Records.{headWords}
+use Rattle.reply.specs.Line.{firstWords, thenWords, recordWords, recordOrDash}
+use Rattle.reply.specs.Line.{Answered, Gives}
 use Rattle.text.proofs.Laws.{then-puts}
 use Rattle.words.proofs.Laws.{text-append}
 
 module _ (k : Kind) (s : List ℕ) (begun whole : Answer) (v : Verdict) where
   pub answered : Begins (bound k) (ruleOf k) s (told begun) v → Ended (ruleOf k) s (told whole)
@@ -21,13 +22,11 @@ module _ (k : Kind) (s : List ℕ) (begun whole : Answer) (v : Verdict) where
       → {h r : List ℕ} → h ≡ textOf (headWords n v w m) → r ≡ textOf (recordOrDash (told begun .value))
       → {old mid end new : List ℕ} {at i j next : ℕ} → Puts (decimal b) old at mid i → Puts h mid i end j → Puts r end j new next
       → Gives (Answered k s) old at new next
-  answered begins ends {b} {n} {w} {m} eb en ew em {h} {r} eh er first second third = (
-    decimal b ++ (h ++ r),
-    (
-      record { begun = told begun; verdict = v; whole = told whole; begins = begins; ends = ends; says = rw (eb, eh, er, en, ew, em) },
-      then-puts first (then-puts second third),
-    ),
-  )
+  answered begins ends {b} {n} {w} {m} eb en ew em {h} {r} eh er first second third = record {
+    text = decimal b ++ (h ++ r);
+    answer = record { begun = told begun; verdict = v; whole = told whole; begins = begins; ends = ends; says = rw (eb, eh, er, en, ew, em) };
+    puts = then-puts first (then-puts second third);
+  }
 
 -- a record of one row, and one of two
 module _ (v : Record) {t old new : List ℕ} {at next : ℕ} where

@@ -1,9 +1,9 @@
 -- Each return by the tests on the line that led there.
 use borrow.Author.Tests.{le-leb, lt-leb, eq-eqb, ne-eqb}
 use borrow.Author.Needs.{needs}
-use Rattle.words.specs.Line.{questionOf}
-use Rattle.words.proofs.answer.question.Statement.{statement}
-use Rattle.words.proofs.answer.question.Tie as tie
+use Rattle.reply.specs.Line.{questionOf}
+use Rattle.reply.proofs.question.Statement.{statement}
+use Rattle.reply.proofs.question.Tie as tie
 
 pub question-spec : {M : Type 1} → statement M
 unfolding questionOf

@@ -11,7 +11,7 @@ use Rattle.parser.specs.Reading.{pick}
 use Rattle.kinds.specs.declared.answer.Kind.{Kind}
 use Rattle.kinds.specs.declared.answer.Letter.{Letter}
 use Rattle.kinds.specs.declared.answer.Letter.the-variants.{Names, Unknown}
-use Rattle.words.specs.Line.{questionOf}
+use Rattle.reply.specs.Line.{questionOf}
 
 pub names-long : (l : List ℕ) (k : Kind) → questionOf l ≡ Names k → 2 ≤ length l
 unfolding questionOf

@@ -1,7 +1,7 @@
 -- Kind by kind.
 use borrow.Author.Needs.{needs}
-use Rattle.words.proofs.answer.first_row.Statement.{statement}
-use Rattle.words.proofs.answer.first_row.Tie as tie
+use Rattle.reply.proofs.first_row.Statement.{statement}
+use Rattle.reply.proofs.first_row.Tie as tie
 
 pub first-row-spec : {M : Type 1} → statement M
 first-row-spec =

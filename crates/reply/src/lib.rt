@@ -1,21 +1,24 @@
-// The answer to a line.
+// The answer to a line: what the beginning reader and the whole reader of the kind that it names tell of its text, as
+//
+//     B COUNT VERDICT W WCOUNT RECORD
+//
+// put into a buffer of the caller's. Programs stand on `answer_line`.
 ghost use mathlib.Core.Path.{_≡_};
 ghost use Rattle.text.specs.Text.{Puts};
 ghost use Rattle.words.specs.Words.{textOf};
-ghost use Rattle.words.specs.Records.{firstWords, recordWords};
-ghost use Rattle.words.specs.Line.{Gives, Answered, questionOf, Answers, AnswersLine};
-use crate::records;
-use crate::rows::put_name;
-use crate::rows::put_word;
-use crate::rows::put_words;
-use crate::word::Name;
-use crate::word::Word;
+ghost use Rattle.reply.specs.Line.{firstWords, recordWords, Gives, Answered, questionOf, Answers, AnswersLine};
 use kinds::answer::Answer;
 use kinds::answer::Kind;
 use kinds::answer::Letter;
 use kinds::answer::Record;
 use text::put_byte;
 use text::put_decimal;
+use words::records;
+use words::rows::put_name;
+use words::rows::put_word;
+use words::rows::put_words;
+use words::word::Name;
+use words::word::Word;
 
 // A record's words; of a date-time the date's, and the time's follow.
 fn first_row(value: Record) -> [Word; 9]

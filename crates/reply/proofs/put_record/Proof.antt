@@ -1,10 +1,10 @@
 -- A row, and a second of a date-time.
 use mathlib.Core.Path.{ap}
-use Rattle.words.specs.Records.{thenWords}
-use Rattle.words.proofs.Answers.{one-row, two-rows}
+use Rattle.reply.specs.Line.{thenWords}
+use Rattle.reply.proofs.Answers.{one-row, two-rows}
 use borrow.Author.Needs.{needs}
-use Rattle.words.proofs.answer.put_record.Statement.{statement}
-use Rattle.words.proofs.answer.put_record.Tie as tie
+use Rattle.reply.proofs.put_record.Statement.{statement}
+use Rattle.reply.proofs.put_record.Tie as tie
 
 pub put-record-spec : {M : Type 1} → statement M
 put-record-spec =

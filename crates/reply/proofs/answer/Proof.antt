@@ -4,10 +4,12 @@ use mathlib.Core.Path.{_≡_, refl, sym, _∙_}
 use native.Mathlib.Omega.{arith}
 use lib.ListN.{length, drop, length-drop}
 use lib.Seq.{take-all}
-use Rattle.words.proofs.Asked.{names-long}
+use Rattle.words.specs.declared.word.Name.the-variants as name
+use Rattle.words.specs.Words.{lettersOf}
+use Rattle.reply.proofs.Asked.{names-long}
 use borrow.Author.Needs.{needs}
-use Rattle.words.proofs.answer.answer.Statement.{statement}
-use Rattle.words.proofs.answer.answer.Tie as tie
+use Rattle.reply.proofs.answer.Statement.{statement}
+use Rattle.reply.proofs.answer.Tie as tie
 
 sub-answer-text : tie.Need-sub-answer-text
 sub-answer-text c = names-long _ _ (sym (c .before .before .before .question .ensures) ∙ c .before .asked .given .1)
@@ -17,14 +19,16 @@ part-answer-text-start c = names-long _ _ (sym (c .before .before .before .quest
 
 returns : tie.Need-returns
 returns c =
-    let asked = c .before .before .before .before .before .before .asked .given .1 in
+    let asked = sym (c .before .before .before .before .before .before .before .before .question .ensures) ∙ c .before .before .before .before .before .before .asked .given .1 in
     let line = c .before .before .before .before .before .before .before .before .before .before .before .args .line .now in
     let text = take-all (length line - 2) (drop 2 line) (simp length-drop (omega arith)) in
-    rw (sym (c .before .before .before .before .before .before .before .before .question .ensures) ∙ asked) (rw text at (c .before .before .answer-text .ensures))
+    let given = c .before .before .answer-text .ensures in
+    record { text = given .text; answer = rw asked (rw text at (given .answer)); puts = given .puts }
 
 returns-2 : tie.Need-returns-2
 returns-2 c =
-    rw (sym (c .before .before .before .before .before .before .question .ensures) ∙ c .before .before .before .before .enum-told .given .1) (_, (refl, c .before .before .put-name .ensures))
+    let asked = sym (c .before .before .before .before .before .before .question .ensures) ∙ c .before .before .before .before .enum-told .given .1 in
+    record { text = lettersOf name.Unknown; answer = rw asked refl; puts = c .before .before .put-name .ensures }
 
 pub answer-spec : {M : Type 1} → statement M
 answer-spec =

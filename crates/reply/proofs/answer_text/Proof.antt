@@ -1,13 +1,13 @@
 -- What the two readers tell, in words.
 use mathlib.Core.List.{append-nil}
 use mathlib.Core.Path.{sym}
 use Rattle.words.specs.Words.{wordText}
 use Rattle.words.specs.declared.word.Name.the-variants.{Dash}
 use Rattle.words.specs.declared.word.Word.the-variants.{Name as Named}
-use Rattle.words.proofs.Answers.{answered}
+use Rattle.reply.proofs.Answers.{answered}
 use borrow.Author.Needs.{needs}
-use Rattle.words.proofs.answer.answer_text.Statement.{statement}
-use Rattle.words.proofs.answer.answer_text.Tie as tie
+use Rattle.reply.proofs.answer_text.Statement.{statement}
+use Rattle.reply.proofs.answer_text.Tie as tie
 
 returns : tie.Need-returns
 returns c =

@@ -1,6 +1,7 @@
 -- The answer to a line.
 use Prim.Native.Nat.{ℕ}
 use mathlib.Core.List.{List, [], _∷_, _++_}
+use mathlib.Core.Option.{Option, some, none}
 use mathlib.Core.Path.{_≡_}
 use lib.Dec.{leb, eqb}
 use lib.ListN.{length, getD, drop}
@@ -9,13 +10,39 @@ use Rattle.parser.specs.Reading.{pick}
 use Rattle.parser.specs.Answer.{Told, Begins, Ended}
 use Rattle.kinds.specs.declared.answer.Kind.{Kind}
 use Rattle.kinds.specs.declared.answer.Record.{Record}
+use Rattle.kinds.specs.declared.answer.Record.the-variants as record-of
 use Rattle.kinds.specs.declared.answer.Letter.{Letter}
 use Rattle.kinds.specs.declared.answer.Letter.the-variants.{Names, Unknown}
 use Rattle.kinds.specs.Kinds.{ruleOf, bound, letterOf}
 use Rattle.words.specs.declared.word.Name.the-variants as name
 use Rattle.text.specs.Text.{Puts, decimal}
 use Rattle.words.specs.Words.{lettersOf, textOf}
-use Rattle.words.specs.Records.{headWords, recordOrDash}
+use Rattle.words.specs.declared.word.Word.{Word}
+use Rattle.words.specs.declared.word.Word.the-variants.{Name as Named}
+use Rattle.words.specs.Records.{headWords, offsetWords, timeWords, dateWords, durationWords}
+
+-- "for a date-time the date's words, then the time's"
+abbrev pub firstWords : Record → List Word
+firstWords (record-of.Date v) = dateWords v
+firstWords (record-of.Time v) = timeWords v
+firstWords (record-of.Offset v) = offsetWords v
+firstWords (record-of.Stamp v) = dateWords (v .date)
+firstWords (record-of.Duration v) = durationWords v
+
+abbrev pub thenWords : Record → List Word
+thenWords (record-of.Stamp v) = timeWords (v .time)
+thenWords (record-of.Date v) = []
+thenWords (record-of.Time v) = []
+thenWords (record-of.Offset v) = []
+thenWords (record-of.Duration v) = []
+
+abbrev pub recordWords : Record → List Word
+recordWords r = firstWords r ++ thenWords r
+
+-- "RECORD: `-` where B is not 0"
+abbrev pub recordOrDash : Option Record → List Word
+recordOrDash (some v) = recordWords v
+recordOrDash none = Named name.Dash ∷ []
 
 -- what a kind's two readers tell of the text s, in words: t, `B COUNT VERDICT W WCOUNT RECORD`. The kind's rule fixes all that they tell.
 pub record Answered (k : Kind) (s t : List ℕ) : Type 0 where
@@ -39,9 +66,13 @@ abbrev pub Answers : List ℕ → List ℕ → Type 0
 Answers l t = AnswersTo (questionOf l) (drop 2 l) t
 
 -- an answer, and the byte 10 that ends its line
-abbrev pub AnswersLine : List ℕ → List ℕ → Type 0
-AnswersLine l t = (a : List ℕ) × (Answers l a × (t ≡ a ++ 10 ∷ []))
+pub record AnswersLine (l t : List ℕ) : Type 0 where
+  pub answer : List ℕ
+  pub answers : Answers l answer
+  pub ends : t ≡ answer ++ 10 ∷ []
 
 -- an answer is put
-abbrev pub Gives : (List ℕ → Type 0) → List ℕ → ℕ → List ℕ → ℕ → Type 0
-Gives answers old at new next = (t : List ℕ) × (answers t × Puts t old at new next)
+pub record Gives (answers : List ℕ → Type 0) (old : List ℕ) (at : ℕ) (new : List ℕ) (next : ℕ) : Type 0 where
+  pub text : List ℕ
+  pub answer : answers text
+  pub puts : Puts text old at new next
