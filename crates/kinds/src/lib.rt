@@ -14,10 +14,15 @@ use crate::answer::Letter;
 use crate::answer::Read;
 use crate::answer::Record;
 use date::DateAnswer;
+use date::DateRead;
 use datetime::DateTimeAnswer;
+use datetime::DateTimeRead;
 use duration::DurationAnswer;
+use duration::DurationRead;
 use offset::OffsetAnswer;
+use offset::OffsetRead;
 use time::TimeAnswer;
+use time::TimeRead;
 
 pub mod answer;
 
@@ -47,6 +52,17 @@ fn of_date(answer: DateAnswer) -> Answer
     }
 }
 
+fn date_read(read: DateRead) -> Read
+    ensures { λ r. ⌜ (told (r .answer) ≡ toldAs Record.Date (dateTold (read .answer))) × (r .verdict ≡ read .verdict) ⌝ }
+{
+    let answer = read.answer;
+    let verdict = read.verdict;
+    Read {
+        answer: of_date(answer),
+        verdict,
+    }
+}
+
 fn of_time(answer: TimeAnswer) -> Answer
     ensures { λ r. ⌜ told r ≡ toldAs Record.Time (timeTold answer) ⌝ }
 {
@@ -56,6 +72,17 @@ fn of_time(answer: TimeAnswer) -> Answer
             count,
         },
         TimeAnswer::Refused { why, count } => Answer::Refused { why, count },
+    }
+}
+
+fn time_read(read: TimeRead) -> Read
+    ensures { λ r. ⌜ (told (r .answer) ≡ toldAs Record.Time (timeTold (read .answer))) × (r .verdict ≡ read .verdict) ⌝ }
+{
+    let answer = read.answer;
+    let verdict = read.verdict;
+    Read {
+        answer: of_time(answer),
+        verdict,
     }
 }
 
@@ -71,6 +98,17 @@ fn of_offset(answer: OffsetAnswer) -> Answer
     }
 }
 
+fn offset_read(read: OffsetRead) -> Read
+    ensures { λ r. ⌜ (told (r .answer) ≡ toldAs Record.Offset (offsetTold (read .answer))) × (r .verdict ≡ read .verdict) ⌝ }
+{
+    let answer = read.answer;
+    let verdict = read.verdict;
+    Read {
+        answer: of_offset(answer),
+        verdict,
+    }
+}
+
 fn of_datetime(answer: DateTimeAnswer) -> Answer
     ensures { λ r. ⌜ told r ≡ toldAs Record.Stamp (dateTimeTold answer) ⌝ }
 {
@@ -80,6 +118,17 @@ fn of_datetime(answer: DateTimeAnswer) -> Answer
             count,
         },
         DateTimeAnswer::Refused { why, count } => Answer::Refused { why, count },
+    }
+}
+
+fn datetime_read(read: DateTimeRead) -> Read
+    ensures { λ r. ⌜ (told (r .answer) ≡ toldAs Record.Stamp (dateTimeTold (read .answer))) × (r .verdict ≡ read .verdict) ⌝ }
+{
+    let answer = read.answer;
+    let verdict = read.verdict;
+    Read {
+        answer: of_datetime(answer),
+        verdict,
     }
 }
 
@@ -95,56 +144,27 @@ fn of_duration(answer: DurationAnswer) -> Answer
     }
 }
 
+fn duration_read(read: DurationRead) -> Read
+    ensures { λ r. ⌜ (told (r .answer) ≡ toldAs Record.Duration (durationTold (read .answer))) × (r .verdict ≡ read .verdict) ⌝ }
+{
+    let answer = read.answer;
+    let verdict = read.verdict;
+    Read {
+        answer: of_duration(answer),
+        verdict,
+    }
+}
+
 // Reads the record of a kind that the bytes begin with.
 pub fn read(kind: Kind, s: &[u8]) -> Read
     ensures { λ r. ⌜ Begins (bound kind) (ruleOf kind) (now (s .entry)) (told (r .answer)) (r .verdict) ⌝ }
 {
     match kind {
-        Kind::Date => {
-            let read = date::date(s);
-            let answer = read.answer;
-            let verdict = read.verdict;
-            Read {
-                answer: of_date(answer),
-                verdict,
-            }
-        }
-        Kind::Time => {
-            let read = time::time(s);
-            let answer = read.answer;
-            let verdict = read.verdict;
-            Read {
-                answer: of_time(answer),
-                verdict,
-            }
-        }
-        Kind::Offset => {
-            let read = offset::offset(s);
-            let answer = read.answer;
-            let verdict = read.verdict;
-            Read {
-                answer: of_offset(answer),
-                verdict,
-            }
-        }
-        Kind::Stamp => {
-            let read = datetime::datetime(s);
-            let answer = read.answer;
-            let verdict = read.verdict;
-            Read {
-                answer: of_datetime(answer),
-                verdict,
-            }
-        }
-        Kind::Duration => {
-            let read = duration::duration(s);
-            let answer = read.answer;
-            let verdict = read.verdict;
-            Read {
-                answer: of_duration(answer),
-                verdict,
-            }
-        }
+        Kind::Date => date_read(date::date(s)),
+        Kind::Time => time_read(time::time(s)),
+        Kind::Offset => offset_read(offset::offset(s)),
+        Kind::Stamp => datetime_read(datetime::datetime(s)),
+        Kind::Duration => duration_read(duration::duration(s)),
     }
 }
 
