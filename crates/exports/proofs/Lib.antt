@@ -1,3 +1,2 @@
-pub mod Stores
 pub mod Laws
 pub mod Once

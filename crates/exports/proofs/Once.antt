@@ -11,7 +11,8 @@ use Rattle.types.specs.declared.Verdict.{Verdict}
 use Rattle.parser.specs.Reading.{Reader}
 use Rattle.parser.specs.Answer.{Told, begun, Judged}
 use Rattle.parser.proofs.Verdict.{begins-once}
-use Rattle.exports.specs.Slots.{verdictSlot, answerSlots, over, Answered, BeginsIn, EndsIn}
+use Rattle.slots.specs.Slots.{verdictSlot, answerSlots, over, Answered}
+use Rattle.exports.specs.Promises.{BeginsIn, EndsIn}
 
 answered-once : {A : Type 0} (f : A → List ℤ) (v w : ℤ) (told : Told A) (before a b : List ℤ) (q r : ℕ) → v ≡ w → Answered f v told before a q → Answered f w told before b r → (a ≡ b) × (q ≡ r)
 answered-once f v w told before a b q r e x y =

@@ -1,1 +1,1 @@
-pub mod Slots
+pub mod Promises

@@ -1,222 +1,21 @@
 // The readers for C: each takes the bytes and an array of slots, fills the slots and returns the paper's number. The layout of the
-// slots stands in specs/Slots.antt and, for C, in tirozhbar.h.
-ghost use mathlib.Core.Path.{_≡_};
-ghost use mathlib.Core.List.{_∷_, []};
-ghost use Prim.Native.Nat.{_+_, _≤_, _<_, _^_};
-ghost use lib.IntN.{pos};
-ghost use lib.ListN.{length};
-ghost use lib.Seq.{sets};
-ghost use Rattle.types.specs.Numbers.{numberOf};
-ghost use Rattle.parser.specs.Answer.{recorded, refused};
+// slots stands in slots' specs/Slots.antt and, for C, in tirozhbar.h.
 ghost use Rattle.offset.specs.Rules.{offset};
 ghost use Rattle.time.specs.Rules.{time};
 ghost use Rattle.date.specs.Rules.{date};
 ghost use Rattle.datetime.specs.Rules.{dateTime};
 ghost use Rattle.duration.specs.Rules.{duration};
-ghost use Rattle.exports.specs.Slots.{verdictSlot, offsetSlots, timeOffsetSlots, timeSlots, dateSlots, dateTimeSlots, durationSlots, noSlots, Answered, BeginsIn, EndsIn};
+ghost use Rattle.slots.specs.Slots.{offsetSlots, timeSlots, dateSlots, dateTimeSlots, durationSlots};
+ghost use Rattle.exports.specs.Promises.{BeginsIn, EndsIn};
 use date::DateAnswer;
 use datetime::DateTimeAnswer;
 use duration::DurationAnswer;
 use offset::OffsetAnswer;
+use slots::TOO_FEW;
 use time::TimeAnswer;
-use types::Date;
-use types::DateTime;
-use types::Duration;
-use types::Offset;
-use types::Refusal;
-use types::Time;
-use types::TimeOffset;
-use types::Verdict;
-
-// What is returned where the slots are too few: nothing is written.
-const TOO_FEW: u32 = 255;
 
 // The verdict slot of a whole reader, which gives none.
 const NO_VERDICT: i64 = -1;
-
-fn number(why: Refusal) -> u32
-    ensures { λ r. ⌜ r ≡ numberOf why ⌝ }
-{
-    match why {
-        Refusal::NoForm => 1,
-        Refusal::TooBig => 2,
-        Refusal::LeftOver => 3,
-    }
-}
-
-fn verdict_slot(verdict: Verdict) -> i64
-    ensures { λ r. ⌜ r ≡ verdictSlot verdict ⌝ }
-{
-    match verdict {
-        Verdict::Settled => 0,
-        Verdict::Open => 1,
-    }
-}
-
-// The two slots that every answer has, and four and three from a place on.
-fn put_head(slots: &mut [i64], count: usize, verdict: i64)
-    requires { ⌜ (2 ≤ length (now slots)) × (count < 2 ^ 63) ⌝ }
-    ensures { λ _. ⌜ now (slots .exit) ≡ sets (now (slots .entry)) 0 (pos count ∷ verdict ∷ []) ⌝ }
-{
-    slots[0] = count as i64;
-    slots[1] = verdict;
-}
-
-fn put_four(slots: &mut [i64], at: usize, a: u32, b: u32, c: u32, d: u32)
-    requires { ⌜ at + 4 ≤ length (now slots) ⌝ }
-    ensures { λ _. ⌜ now (slots .exit) ≡ sets (now (slots .entry)) at (pos a ∷ pos b ∷ pos c ∷ pos d ∷ []) ⌝ }
-{
-    slots[at] = a as i64;
-    slots[at + 1] = b as i64;
-    slots[at + 2] = c as i64;
-    slots[at + 3] = d as i64;
-}
-
-fn put_three(slots: &mut [i64], at: usize, a: i64, b: i64, c: i64)
-    requires { ⌜ at + 3 ≤ length (now slots) ⌝ }
-    ensures { λ _. ⌜ now (slots .exit) ≡ sets (now (slots .entry)) at (a ∷ b ∷ c ∷ []) ⌝ }
-{
-    slots[at] = a;
-    slots[at + 1] = b;
-    slots[at + 2] = c;
-}
-
-// Each of these fills the slots of an answer and returns its number.
-fn put_refusal(slots: &mut [i64], count: usize, verdict: i64, why: Refusal) -> u32
-    requires { ⌜ (2 ≤ length (now slots)) × (count < 2 ^ 63) ⌝ }
-    ensures { λ r. ⌜ Answered noSlots verdict (refused (numberOf why) count) (now (slots .entry)) (now (slots .exit)) r ⌝ }
-{
-    put_head(slots, count, verdict);
-    number(why)
-}
-
-fn put_offset(slots: &mut [i64], count: usize, verdict: i64, o: Offset) -> u32
-    requires { ⌜ (4 ≤ length (now slots)) × (count < 2 ^ 63) ⌝ }
-    ensures { λ r. ⌜ Answered offsetSlots verdict (recorded o count) (now (slots .entry)) (now (slots .exit)) r ⌝ }
-{
-    put_head(slots, count, verdict);
-    slots[2] = o.hours as i64;
-    slots[3] = o.minutes as i64;
-    0
-}
-
-// A time's offset in its three slots: whether one is given, and the offset.
-struct Shift {
-    given: i64,
-    hours: i64,
-    minutes: i64,
-}
-
-fn shift_of(o: TimeOffset) -> Shift
-    ensures { λ r. ⌜ timeOffsetSlots o ≡ r .given ∷ r .hours ∷ r .minutes ∷ [] ⌝ }
-{
-    match o {
-        TimeOffset::Absent => Shift {
-            given: 0,
-            hours: 0,
-            minutes: 0,
-        },
-        TimeOffset::Given(given) => Shift {
-            given: 1,
-            hours: given.hours as i64,
-            minutes: given.minutes as i64,
-        },
-    }
-}
-
-// A time's seven slots, from a place on.
-fn put_time_from(slots: &mut [i64], at: usize, t: Time)
-    requires { ⌜ at + 7 ≤ length (now slots) ⌝ }
-    ensures { λ _. ⌜ now (slots .exit) ≡ sets (now (slots .entry)) at (timeSlots t) ⌝ }
-{
-    let o = t.offset;
-    let shift = shift_of(o);
-    put_four(slots, at, t.hour, t.minute, t.second, t.nanosecond);
-    put_three(slots, at + 4, shift.given, shift.hours, shift.minutes);
-}
-
-fn put_time(slots: &mut [i64], count: usize, verdict: i64, t: Time) -> u32
-    requires { ⌜ (9 ≤ length (now slots)) × (count < 2 ^ 63) ⌝ }
-    ensures { λ r. ⌜ Answered timeSlots verdict (recorded t count) (now (slots .entry)) (now (slots .exit)) r ⌝ }
-{
-    put_head(slots, count, verdict);
-    put_time_from(slots, 2, t);
-    0
-}
-
-// A date's four slots: the form's number, the year, the month or week, the day.
-struct Day {
-    form: u32,
-    year: i32,
-    part: u32,
-    day: u32,
-}
-
-fn day_of(d: Date) -> Day
-    ensures { λ r. ⌜ dateSlots d ≡ pos (r .form) ∷ r .year ∷ pos (r .part) ∷ pos (r .day) ∷ [] ⌝ }
-{
-    match d {
-        Date::YMD { year, month, day } => Day {
-            form: 0,
-            year,
-            part: month,
-            day,
-        },
-        Date::Week { year, week, day } => Day {
-            form: 1,
-            year,
-            part: week,
-            day,
-        },
-        Date::Ordinal { year, day } => Day {
-            form: 2,
-            year,
-            part: 0,
-            day,
-        },
-    }
-}
-
-fn put_day(slots: &mut [i64], form: u32, year: i32, part: u32, day: u32)
-    requires { ⌜ 6 ≤ length (now slots) ⌝ }
-    ensures { λ _. ⌜ now (slots .exit) ≡ sets (now (slots .entry)) 2 (pos form ∷ year ∷ pos part ∷ pos day ∷ []) ⌝ }
-{
-    slots[2] = form as i64;
-    slots[3] = year as i64;
-    slots[4] = part as i64;
-    slots[5] = day as i64;
-}
-
-fn put_date(slots: &mut [i64], count: usize, verdict: i64, d: Date) -> u32
-    requires { ⌜ (6 ≤ length (now slots)) × (count < 2 ^ 63) ⌝ }
-    ensures { λ r. ⌜ Answered dateSlots verdict (recorded d count) (now (slots .entry)) (now (slots .exit)) r ⌝ }
-{
-    let day = day_of(d);
-    put_head(slots, count, verdict);
-    put_day(slots, day.form, day.year, day.part, day.day);
-    0
-}
-
-fn put_datetime(slots: &mut [i64], count: usize, verdict: i64, x: DateTime) -> u32
-    requires { ⌜ (13 ≤ length (now slots)) × (count < 2 ^ 63) ⌝ }
-    ensures { λ r. ⌜ Answered dateTimeSlots verdict (recorded x count) (now (slots .entry)) (now (slots .exit)) r ⌝ }
-{
-    let d = x.date;
-    let t = x.time;
-    put_date(slots, count, verdict, d);
-    put_time_from(slots, 6, t);
-    0
-}
-
-fn put_duration(slots: &mut [i64], count: usize, verdict: i64, d: Duration) -> u32
-    requires { ⌜ (9 ≤ length (now slots)) × (count < 2 ^ 63) ⌝ }
-    ensures { λ r. ⌜ Answered durationSlots verdict (recorded d count) (now (slots .entry)) (now (slots .exit)) r ⌝ }
-{
-    put_head(slots, count, verdict);
-    put_four(slots, 2, d.years, d.months, d.weeks, d.days);
-    put_three(slots, 6, d.hours as i64, d.minutes as i64, d.seconds as i64);
-    0
-}
 
 // Reads the offset that the bytes begin with.
 #[no_mangle]
@@ -228,11 +27,11 @@ pub extern "C" fn tirozhbar_offset(s: &[u8], slots: &mut [i64]) -> u32
     }
     let read = offset::offset(s);
     let judged = read.verdict;
-    let verdict = verdict_slot(judged);
+    let verdict = slots::verdict_slot(judged);
     let answer = read.answer;
     match answer {
-        OffsetAnswer::Record { value, count } => put_offset(slots, count, verdict, value),
-        OffsetAnswer::Refused { why, count } => put_refusal(slots, count, verdict, why),
+        OffsetAnswer::Record { value, count } => slots::put_offset(slots, count, verdict, value),
+        OffsetAnswer::Refused { why, count } => slots::put_refusal(slots, count, verdict, why),
     }
 }
 
@@ -246,8 +45,8 @@ pub extern "C" fn tirozhbar_parse_offset(s: &[u8], slots: &mut [i64]) -> u32
     }
     let answer = offset::parse_offset(s);
     match answer {
-        OffsetAnswer::Record { value, count } => put_offset(slots, count, NO_VERDICT, value),
-        OffsetAnswer::Refused { why, count } => put_refusal(slots, count, NO_VERDICT, why),
+        OffsetAnswer::Record { value, count } => slots::put_offset(slots, count, NO_VERDICT, value),
+        OffsetAnswer::Refused { why, count } => slots::put_refusal(slots, count, NO_VERDICT, why),
     }
 }
 
@@ -261,11 +60,11 @@ pub extern "C" fn tirozhbar_time(s: &[u8], slots: &mut [i64]) -> u32
     }
     let read = time::time(s);
     let judged = read.verdict;
-    let verdict = verdict_slot(judged);
+    let verdict = slots::verdict_slot(judged);
     let answer = read.answer;
     match answer {
-        TimeAnswer::Record { value, count } => put_time(slots, count, verdict, value),
-        TimeAnswer::Refused { why, count } => put_refusal(slots, count, verdict, why),
+        TimeAnswer::Record { value, count } => slots::put_time(slots, count, verdict, value),
+        TimeAnswer::Refused { why, count } => slots::put_refusal(slots, count, verdict, why),
     }
 }
 
@@ -279,8 +78,8 @@ pub extern "C" fn tirozhbar_parse_time(s: &[u8], slots: &mut [i64]) -> u32
     }
     let answer = time::parse_time(s);
     match answer {
-        TimeAnswer::Record { value, count } => put_time(slots, count, NO_VERDICT, value),
-        TimeAnswer::Refused { why, count } => put_refusal(slots, count, NO_VERDICT, why),
+        TimeAnswer::Record { value, count } => slots::put_time(slots, count, NO_VERDICT, value),
+        TimeAnswer::Refused { why, count } => slots::put_refusal(slots, count, NO_VERDICT, why),
     }
 }
 
@@ -294,11 +93,11 @@ pub extern "C" fn tirozhbar_date(s: &[u8], slots: &mut [i64]) -> u32
     }
     let read = date::date(s);
     let judged = read.verdict;
-    let verdict = verdict_slot(judged);
+    let verdict = slots::verdict_slot(judged);
     let answer = read.answer;
     match answer {
-        DateAnswer::Record { value, count } => put_date(slots, count, verdict, value),
-        DateAnswer::Refused { why, count } => put_refusal(slots, count, verdict, why),
+        DateAnswer::Record { value, count } => slots::put_date(slots, count, verdict, value),
+        DateAnswer::Refused { why, count } => slots::put_refusal(slots, count, verdict, why),
     }
 }
 
@@ -312,8 +111,8 @@ pub extern "C" fn tirozhbar_parse_date(s: &[u8], slots: &mut [i64]) -> u32
     }
     let answer = date::parse_date(s);
     match answer {
-        DateAnswer::Record { value, count } => put_date(slots, count, NO_VERDICT, value),
-        DateAnswer::Refused { why, count } => put_refusal(slots, count, NO_VERDICT, why),
+        DateAnswer::Record { value, count } => slots::put_date(slots, count, NO_VERDICT, value),
+        DateAnswer::Refused { why, count } => slots::put_refusal(slots, count, NO_VERDICT, why),
     }
 }
 
@@ -327,11 +126,16 @@ pub extern "C" fn tirozhbar_datetime(s: &[u8], slots: &mut [i64]) -> u32
     }
     let read = datetime::datetime(s);
     let judged = read.verdict;
-    let verdict = verdict_slot(judged);
+    let verdict = slots::verdict_slot(judged);
     let answer = read.answer;
     match answer {
-        DateTimeAnswer::Record { value, count } => put_datetime(slots, count, verdict, value),
-        DateTimeAnswer::Refused { why, count } => put_refusal(slots, count, verdict, why),
+        DateTimeAnswer::Record { value, count } => slots::put_datetime(
+            slots,
+            count,
+            verdict,
+            value,
+        ),
+        DateTimeAnswer::Refused { why, count } => slots::put_refusal(slots, count, verdict, why),
     }
 }
 
@@ -345,8 +149,13 @@ pub extern "C" fn tirozhbar_parse_datetime(s: &[u8], slots: &mut [i64]) -> u32
     }
     let answer = datetime::parse_datetime(s);
     match answer {
-        DateTimeAnswer::Record { value, count } => put_datetime(slots, count, NO_VERDICT, value),
-        DateTimeAnswer::Refused { why, count } => put_refusal(slots, count, NO_VERDICT, why),
+        DateTimeAnswer::Record { value, count } => slots::put_datetime(
+            slots,
+            count,
+            NO_VERDICT,
+            value,
+        ),
+        DateTimeAnswer::Refused { why, count } => slots::put_refusal(slots, count, NO_VERDICT, why),
     }
 }
 
@@ -360,11 +169,16 @@ pub extern "C" fn tirozhbar_duration(s: &[u8], slots: &mut [i64]) -> u32
     }
     let read = duration::duration(s);
     let judged = read.verdict;
-    let verdict = verdict_slot(judged);
+    let verdict = slots::verdict_slot(judged);
     let answer = read.answer;
     match answer {
-        DurationAnswer::Record { value, count } => put_duration(slots, count, verdict, value),
-        DurationAnswer::Refused { why, count } => put_refusal(slots, count, verdict, why),
+        DurationAnswer::Record { value, count } => slots::put_duration(
+            slots,
+            count,
+            verdict,
+            value,
+        ),
+        DurationAnswer::Refused { why, count } => slots::put_refusal(slots, count, verdict, why),
     }
 }
 
@@ -378,7 +192,12 @@ pub extern "C" fn tirozhbar_parse_duration(s: &[u8], slots: &mut [i64]) -> u32
     }
     let answer = duration::parse_duration(s);
     match answer {
-        DurationAnswer::Record { value, count } => put_duration(slots, count, NO_VERDICT, value),
-        DurationAnswer::Refused { why, count } => put_refusal(slots, count, NO_VERDICT, why),
+        DurationAnswer::Record { value, count } => slots::put_duration(
+            slots,
+            count,
+            NO_VERDICT,
+            value,
+        ),
+        DurationAnswer::Refused { why, count } => slots::put_refusal(slots, count, NO_VERDICT, why),
     }
 }

@@ -4,7 +4,7 @@ use native.Mathlib.Omega.{arith}
 use borrow.Author.Needs.{needs}
 use Rattle.duration.specs.Answer.{durationTold}
 use Rattle.duration.proofs.Laws.{duration-bounded}
-use Rattle.exports.proofs.Laws.{begun-count, begins-few, begins, refusal}
+use Rattle.exports.proofs.Laws.{begins-few, begins, refusal}
 use Rattle.exports.proofs.tirozhbar_duration.Statement.{statement}
 use Rattle.exports.proofs.tirozhbar_duration.Tie as tie
 
@@ -16,10 +16,10 @@ tirozhbar-duration-spec =
     (λ c κs. search needs)
     (λ c κs. search needs)
     (λ c. search needs)
-    (λ c κs. (omega arith, omega (arith, begun-count duration-bounded (c .before .before .before .before .before .duration .ensures) (ap durationTold (c .before .before .answer .given .1)))))
+    (λ c κs. search needs)
     (λ c. search needs)
-    (λ c κs. (omega arith, omega (arith, begun-count duration-bounded (c .before .before .before .before .before .duration .ensures) (ap durationTold (c .before .before .answer2 .given .1)))))
+    (λ c κs. search needs)
     (λ c. search needs)
-    (λ c. begins (c .before .before .before .before .before .before .before .before .if1 .left) (c .before .before .before .before .before .before .before .duration .ensures) (ap durationTold (c .before .before .before .before .answer .given .1)) (c .before .before .before .before .before .before .verdict-slot .ensures) (search needs) (c .before .put-duration .ensures))
+    (λ c. begins (c .before .before .before .before .before .before .before .before .if1 .left) (omega arith) (omega arith) duration-bounded (c .before .before .before .before .before .before .before .duration .ensures) (ap durationTold (c .before .before .before .before .answer .given .1)) (c .before .before .before .before .before .before .verdict-slot .ensures) (search needs) (c .before .put-duration .ensures))
     (λ c. search needs)
-    (λ c. begins (c .before .before .before .before .before .before .before .before .if1 .left) (c .before .before .before .before .before .before .before .duration .ensures) (ap durationTold (c .before .before .before .before .answer2 .given .1)) (c .before .before .before .before .before .before .verdict-slot .ensures) (search needs) (refusal (c .before .put-refusal .ensures))))
+    (λ c. begins (c .before .before .before .before .before .before .before .before .if1 .left) (omega arith) (omega arith) duration-bounded (c .before .before .before .before .before .before .before .duration .ensures) (ap durationTold (c .before .before .before .before .answer2 .given .1)) (c .before .before .before .before .before .before .verdict-slot .ensures) (search needs) (refusal (c .before .put-refusal .ensures))))

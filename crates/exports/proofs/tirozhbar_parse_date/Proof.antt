@@ -4,8 +4,7 @@ use native.Mathlib.Omega.{arith}
 use borrow.Author.Needs.{needs}
 use Rattle.date.specs.Answer.{dateTold}
 use Rattle.date.proofs.Laws.{date-bounded}
-use Rattle.date.specs.Rules.{date}
-use Rattle.exports.proofs.Laws.{ended-count, ends-few, ends, refusal}
+use Rattle.exports.proofs.Laws.{ends-few, ends, refusal}
 use Rattle.exports.proofs.tirozhbar_parse_date.Statement.{statement}
 use Rattle.exports.proofs.tirozhbar_parse_date.Tie as tie
 
@@ -16,10 +15,10 @@ tirozhbar-parse-date-spec =
     (λ c. ends-few (c .if1 .taken))
     (λ c κs. search needs)
     (λ c. search needs)
-    (λ c κs. (omega arith, omega (arith, ended-count date (c .before .before .before .before .before .before .before .args .s .now) date-bounded (c .before .before .before .before .parse-date .ensures) (ap dateTold (c .before .before .answer .given .1)))))
+    (λ c κs. search needs)
     (λ c. search needs)
-    (λ c κs. (omega arith, omega (arith, ended-count date (c .before .before .before .before .before .before .before .args .s .now) date-bounded (c .before .before .before .before .parse-date .ensures) (ap dateTold (c .before .before .answer2 .given .1)))))
+    (λ c κs. search needs)
     (λ c. search needs)
-    (λ c. ends (c .before .before .before .before .before .before .before .if1 .left) (c .before .before .before .before .before .before .parse-date .ensures) (ap dateTold (c .before .before .before .before .answer .given .1)) (c .before .put-date .ensures))
+    (λ c. ends (c .before .before .before .before .before .before .before .if1 .left) (omega arith) (omega arith) date-bounded (c .before .before .before .before .before .before .parse-date .ensures) (ap dateTold (c .before .before .before .before .answer .given .1)) (c .before .put-date .ensures))
     (λ c. search needs)
-    (λ c. ends (c .before .before .before .before .before .before .before .if1 .left) (c .before .before .before .before .before .before .parse-date .ensures) (ap dateTold (c .before .before .before .before .answer2 .given .1)) (refusal (c .before .put-refusal .ensures))))
+    (λ c. ends (c .before .before .before .before .before .before .before .if1 .left) (omega arith) (omega arith) date-bounded (c .before .before .before .before .before .before .parse-date .ensures) (ap dateTold (c .before .before .before .before .answer2 .given .1)) (refusal (c .before .put-refusal .ensures))))

@@ -4,8 +4,7 @@ use native.Mathlib.Omega.{arith}
 use borrow.Author.Needs.{needs}
 use Rattle.datetime.specs.Answer.{dateTimeTold}
 use Rattle.datetime.proofs.Laws.{datetime-bounded}
-use Rattle.datetime.specs.Rules.{dateTime}
-use Rattle.exports.proofs.Laws.{ended-count, ends-few, ends, refusal}
+use Rattle.exports.proofs.Laws.{ends-few, ends, refusal}
 use Rattle.exports.proofs.tirozhbar_parse_datetime.Statement.{statement}
 use Rattle.exports.proofs.tirozhbar_parse_datetime.Tie as tie
 
@@ -16,10 +15,10 @@ tirozhbar-parse-datetime-spec =
     (λ c. ends-few (c .if1 .taken))
     (λ c κs. search needs)
     (λ c. search needs)
-    (λ c κs. (omega arith, omega (arith, ended-count dateTime (c .before .before .before .before .before .before .before .args .s .now) datetime-bounded (c .before .before .before .before .parse-datetime .ensures) (ap dateTimeTold (c .before .before .answer .given .1)))))
+    (λ c κs. search needs)
     (λ c. search needs)
-    (λ c κs. (omega arith, omega (arith, ended-count dateTime (c .before .before .before .before .before .before .before .args .s .now) datetime-bounded (c .before .before .before .before .parse-datetime .ensures) (ap dateTimeTold (c .before .before .answer2 .given .1)))))
+    (λ c κs. search needs)
     (λ c. search needs)
-    (λ c. ends (c .before .before .before .before .before .before .before .if1 .left) (c .before .before .before .before .before .before .parse-datetime .ensures) (ap dateTimeTold (c .before .before .before .before .answer .given .1)) (c .before .put-datetime .ensures))
+    (λ c. ends (c .before .before .before .before .before .before .before .if1 .left) (omega arith) (omega arith) datetime-bounded (c .before .before .before .before .before .before .parse-datetime .ensures) (ap dateTimeTold (c .before .before .before .before .answer .given .1)) (c .before .put-datetime .ensures))
     (λ c. search needs)
-    (λ c. ends (c .before .before .before .before .before .before .before .if1 .left) (c .before .before .before .before .before .before .parse-datetime .ensures) (ap dateTimeTold (c .before .before .before .before .answer2 .given .1)) (refusal (c .before .put-refusal .ensures))))
+    (λ c. ends (c .before .before .before .before .before .before .before .if1 .left) (omega arith) (omega arith) datetime-bounded (c .before .before .before .before .before .before .parse-datetime .ensures) (ap dateTimeTold (c .before .before .before .before .answer2 .given .1)) (refusal (c .before .put-refusal .ensures))))

@@ -4,8 +4,7 @@ use native.Mathlib.Omega.{arith}
 use borrow.Author.Needs.{needs}
 use Rattle.duration.specs.Answer.{durationTold}
 use Rattle.duration.proofs.Laws.{duration-bounded}
-use Rattle.duration.specs.Rules.{duration}
-use Rattle.exports.proofs.Laws.{ended-count, ends-few, ends, refusal}
+use Rattle.exports.proofs.Laws.{ends-few, ends, refusal}
 use Rattle.exports.proofs.tirozhbar_parse_duration.Statement.{statement}
 use Rattle.exports.proofs.tirozhbar_parse_duration.Tie as tie
 
@@ -16,10 +15,10 @@ tirozhbar-parse-duration-spec =
     (λ c. ends-few (c .if1 .taken))
     (λ c κs. search needs)
     (λ c. search needs)
-    (λ c κs. (omega arith, omega (arith, ended-count duration (c .before .before .before .before .before .before .before .args .s .now) duration-bounded (c .before .before .before .before .parse-duration .ensures) (ap durationTold (c .before .before .answer .given .1)))))
+    (λ c κs. search needs)
     (λ c. search needs)
-    (λ c κs. (omega arith, omega (arith, ended-count duration (c .before .before .before .before .before .before .before .args .s .now) duration-bounded (c .before .before .before .before .parse-duration .ensures) (ap durationTold (c .before .before .answer2 .given .1)))))
+    (λ c κs. search needs)
     (λ c. search needs)
-    (λ c. ends (c .before .before .before .before .before .before .before .if1 .left) (c .before .before .before .before .before .before .parse-duration .ensures) (ap durationTold (c .before .before .before .before .answer .given .1)) (c .before .put-duration .ensures))
+    (λ c. ends (c .before .before .before .before .before .before .before .if1 .left) (omega arith) (omega arith) duration-bounded (c .before .before .before .before .before .before .parse-duration .ensures) (ap durationTold (c .before .before .before .before .answer .given .1)) (c .before .put-duration .ensures))
     (λ c. search needs)
-    (λ c. ends (c .before .before .before .before .before .before .before .if1 .left) (c .before .before .before .before .before .before .parse-duration .ensures) (ap durationTold (c .before .before .before .before .answer2 .given .1)) (refusal (c .before .put-refusal .ensures))))
+    (λ c. ends (c .before .before .before .before .before .before .before .if1 .left) (omega arith) (omega arith) duration-bounded (c .before .before .before .before .before .before .parse-duration .ensures) (ap durationTold (c .before .before .before .before .answer2 .given .1)) (refusal (c .before .put-refusal .ensures))))

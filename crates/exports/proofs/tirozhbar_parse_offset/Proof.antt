@@ -4,8 +4,7 @@ use native.Mathlib.Omega.{arith}
 use borrow.Author.Needs.{needs}
 use Rattle.offset.specs.Answer.{offsetTold}
 use Rattle.offset.proofs.Laws.{offset-bounded}
-use Rattle.offset.specs.Rules.{offset}
-use Rattle.exports.proofs.Laws.{ended-count, ends-few, ends, refusal}
+use Rattle.exports.proofs.Laws.{ends-few, ends, refusal}
 use Rattle.exports.proofs.tirozhbar_parse_offset.Statement.{statement}
 use Rattle.exports.proofs.tirozhbar_parse_offset.Tie as tie
 
@@ -16,10 +15,10 @@ tirozhbar-parse-offset-spec =
     (λ c. ends-few (c .if1 .taken))
     (λ c κs. search needs)
     (λ c. search needs)
-    (λ c κs. (omega arith, omega (arith, ended-count offset (c .before .before .before .before .before .before .before .args .s .now) offset-bounded (c .before .before .before .before .parse-offset .ensures) (ap offsetTold (c .before .before .answer .given .1)))))
+    (λ c κs. search needs)
     (λ c. search needs)
-    (λ c κs. (omega arith, omega (arith, ended-count offset (c .before .before .before .before .before .before .before .args .s .now) offset-bounded (c .before .before .before .before .parse-offset .ensures) (ap offsetTold (c .before .before .answer2 .given .1)))))
+    (λ c κs. search needs)
     (λ c. search needs)
-    (λ c. ends (c .before .before .before .before .before .before .before .if1 .left) (c .before .before .before .before .before .before .parse-offset .ensures) (ap offsetTold (c .before .before .before .before .answer .given .1)) (c .before .put-offset .ensures))
+    (λ c. ends (c .before .before .before .before .before .before .before .if1 .left) (omega arith) (omega arith) offset-bounded (c .before .before .before .before .before .before .parse-offset .ensures) (ap offsetTold (c .before .before .before .before .answer .given .1)) (c .before .put-offset .ensures))
     (λ c. search needs)
-    (λ c. ends (c .before .before .before .before .before .before .before .if1 .left) (c .before .before .before .before .before .before .parse-offset .ensures) (ap offsetTold (c .before .before .before .before .answer2 .given .1)) (refusal (c .before .put-refusal .ensures))))
+    (λ c. ends (c .before .before .before .before .before .before .before .if1 .left) (omega arith) (omega arith) offset-bounded (c .before .before .before .before .before .before .parse-offset .ensures) (ap offsetTold (c .before .before .before .before .answer2 .given .1)) (refusal (c .before .put-refusal .ensures))))

@@ -4,8 +4,7 @@ use native.Mathlib.Omega.{arith}
 use borrow.Author.Needs.{needs}
 use Rattle.time.specs.Answer.{timeTold}
 use Rattle.time.proofs.Laws.{time-bounded}
-use Rattle.time.specs.Rules.{time}
-use Rattle.exports.proofs.Laws.{ended-count, ends-few, ends, refusal}
+use Rattle.exports.proofs.Laws.{ends-few, ends, refusal}
 use Rattle.exports.proofs.tirozhbar_parse_time.Statement.{statement}
 use Rattle.exports.proofs.tirozhbar_parse_time.Tie as tie
 
@@ -16,10 +15,10 @@ tirozhbar-parse-time-spec =
     (λ c. ends-few (c .if1 .taken))
     (λ c κs. search needs)
     (λ c. search needs)
-    (λ c κs. (omega arith, omega (arith, ended-count time (c .before .before .before .before .before .before .before .args .s .now) time-bounded (c .before .before .before .before .parse-time .ensures) (ap timeTold (c .before .before .answer .given .1)))))
+    (λ c κs. search needs)
     (λ c. search needs)
-    (λ c κs. (omega arith, omega (arith, ended-count time (c .before .before .before .before .before .before .before .args .s .now) time-bounded (c .before .before .before .before .parse-time .ensures) (ap timeTold (c .before .before .answer2 .given .1)))))
+    (λ c κs. search needs)
     (λ c. search needs)
-    (λ c. ends (c .before .before .before .before .before .before .before .if1 .left) (c .before .before .before .before .before .before .parse-time .ensures) (ap timeTold (c .before .before .before .before .answer .given .1)) (c .before .put-time .ensures))
+    (λ c. ends (c .before .before .before .before .before .before .before .if1 .left) (omega arith) (omega arith) time-bounded (c .before .before .before .before .before .before .parse-time .ensures) (ap timeTold (c .before .before .before .before .answer .given .1)) (c .before .put-time .ensures))
     (λ c. search needs)
-    (λ c. ends (c .before .before .before .before .before .before .before .if1 .left) (c .before .before .before .before .before .before .parse-time .ensures) (ap timeTold (c .before .before .before .before .answer2 .given .1)) (refusal (c .before .put-refusal .ensures))))
+    (λ c. ends (c .before .before .before .before .before .before .before .if1 .left) (omega arith) (omega arith) time-bounded (c .before .before .before .before .before .before .parse-time .ensures) (ap timeTold (c .before .before .before .before .answer2 .given .1)) (refusal (c .before .put-refusal .ensures))))
