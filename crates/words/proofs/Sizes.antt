@@ -52,9 +52,9 @@ module _ {n : ℤ} (h : SFits w64 n) (b : Below n) where
   pub negated : pos 0 -ℤ toZ w64 (ofZ w64 (toZ w64 (ofZ w64 n) +ℤ pos 1)) ≡ pos (b .k)
   negated = rw (more, read (minus-fits (b .k) (b .fits)), +ℤ-idl) (negℤ-negℤ (pos (b .k)))
 
--- a signed word is its size, behind a minus where it is below 0
-pub signed-below : (n : ℤ) → Below n → signedWord n ≡ Minus (natAbs n)
+-- its word is the number one more than k behind a minus, or the number itself
+pub signed-below : (n : ℤ) (b : Below n) → Minus (suc (b .k)) ≡ signedWord n
 signed-below n b = rw (b .is)
 
-pub signed-above : (n : ℤ) → Above n → signedWord n ≡ Number (natAbs n)
+pub signed-above : (n : ℤ) → Above n → Number (natAbs n) ≡ signedWord n
 signed-above n a = rw (a .is)

@@ -1,6 +1,5 @@
 // The words that an answer is made of.
 ghost use mathlib.Core.Path.{_≡_};
-ghost use lib.IntN.{natAbs};
 ghost use Rattle.words.specs.Words.{packed, lettersOf, signedWord};
 
 pub enum Name {
@@ -44,27 +43,16 @@ pub fn letters(name: Name) -> u64
     }
 }
 
-// How far a number is from 0.
-fn size(n: i64) -> u64
-    ensures { λ r. ⌜ r ≡ natAbs n ⌝ }
-{
-    if n < 0 {
-        // The least number's negation does not fit, and that of the next number does.
-        let less = 0 - (n + 1);
-        (less as u64) + 1
-    } else {
-        n as u64
-    }
-}
-
 // A number with its minus, where it has one.
 pub fn signed(n: i64) -> Word
     ensures { λ r. ⌜ r ≡ signedWord n ⌝ }
 {
     if n < 0 {
-        Word::Minus(size(n))
+        // The least number's negation does not fit, and that of the next number does.
+        let less = 0 - (n + 1);
+        Word::Minus((less as u64) + 1)
     } else {
-        Word::Number(size(n))
+        Word::Number(n as u64)
     }
 }
 
