@@ -78,7 +78,7 @@ pub record Answered {A : Type 0} (slots : A → List ℤ) (v : ℤ) (told : Told
   pub number : r ≡ told .number
   pub filled : after ≡ over (answerSlots slots v told) before
 
--- of an answer that is put where it takes n slots, whatever the slots and the count
+-- of an answer that takes n slots, whatever slots are there and whatever the count; one of 2 ^ 63 or more is more than a slot holds
 pub record PutIn {A : Type 0} (n : ℕ) (slots : A → List ℤ) (v : ℤ) (told : Told A) (before after : List ℤ) (r : ℕ) : Type 0 where
   pub few : length before < n → Untouched before after r
   pub far : 2 ^ 63 ≤ told .count → Untouched before after r

@@ -1,5 +1,5 @@
 // What an answer is in an array of slots of 64 bits: each function fills the slots of one answer and returns the paper's number. Where
-// the slots are too few for its record, or the count is none that a slot holds, it writes nothing. The layout stands in specs/Slots.antt.
+// the slots are too few, or the count is more than a slot holds, it writes nothing. The layout stands in specs/Slots.antt.
 ghost use mathlib.Core.Path.{_≡_};
 ghost use mathlib.Core.List.{_∷_, []};
 ghost use Prim.Native.Nat.{_+_, _≤_, _<_, _^_};
@@ -18,7 +18,7 @@ use types::Time;
 use types::TimeOffset;
 use types::Verdict;
 
-// What is returned where the slots are too few: nothing is written.
+// What is returned where the slots are too few, or the count is more than one holds: nothing is written.
 pub const TOO_FEW: u32 = 255;
 
 // The greatest count that a slot holds.

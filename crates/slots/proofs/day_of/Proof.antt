@@ -10,9 +10,7 @@ pub day-of-spec : {M : Type 1} → statement M
 day-of-spec =
     tie.close
     (tie.spec
-    (λ c. search needs)
-    (λ c. search needs)
-    (λ c. search needs)
+    (λ c. search needs) (λ c. search needs) (λ c. search needs)
     (λ c. rw (c .before .d .given .1) (sym (refl then toZ-ofZ (search needs) then refl)))
     (λ c. rw (c .before .d2 .given .1) (sym (refl then toZ-ofZ (search needs) then refl)))
     (λ c. rw (c .before .d3 .given .1) (sym (refl then toZ-ofZ (search needs) then refl))))

@@ -16,8 +16,5 @@ put-date-spec =
     (tie.spec
     (λ c. few (c .if1 .taken))
     (λ c. far (omega arith))
-    (λ c κs. search needs)
-    (λ c κs. search needs)
-    (λ c κs. search needs)
-    (λ c. search needs)
+    (λ c κs. search needs) (λ c κs. search needs) (λ c κs. search needs) (λ c. search needs)
     (λ c. put (omega arith) (omega arith) (headed (search needs) (omega (arith, date-length (c .before .before .before .before .before .before .before .before .before .before .args .d))) (c .before .before .before .before .before .put-head .ensures) (c .before .put-day .ensures ∙ ap (sets (c .before .before .before .before .before .put-head .last .0) 2) (by (c .before .before .before .before .before .before .before .day-of .ensures) (refl then toZ-ofZ {w = w32} (search needs) then refl))))))

@@ -32,7 +32,5 @@ put-datetime-spec =
     (tie.spec
     (λ c. few (c .if1 .taken))
     (λ c. far (omega arith))
-    (λ c κs. search needs)
-    (λ c κs. search needs)
-    (λ c. search needs)
+    (λ c κs. search needs) (λ c κs. search needs) (λ c. search needs)
     (λ c. put (omega arith) (omega arith) (both (search needs) (omega arith) (c .before .before .before .before .put-date .ensures .room (omega arith) (omega arith)) (c .before .put-time-from .ensures))))

@@ -10,13 +10,6 @@ pub put-day-spec : {M : Type 1} → statement M
 put-day-spec =
     tie.close
     (tie.spec
-    (λ c. search needs)
-    (λ c. search needs)
-    (λ c. search (needs, signed-fits))
-    (λ c. simp length-set (omega arith))
-    (λ c. search needs)
-    (λ c. simp length-set (omega arith))
-    (λ c. search needs)
-    (λ c. simp length-set (omega arith))
-    (λ c. simp length-set)
+    (λ c. search needs) (λ c. search needs) (λ c. search (needs, signed-fits)) (λ c. simp length-set (omega arith)) (λ c. search needs)
+    (λ c. simp length-set (omega arith)) (λ c. search needs) (λ c. simp length-set (omega arith)) (λ c. simp length-set)
     (λ c. rw (unsigned {n = c .args .form} (omega arith), signed {z = c .args .year} (search needs), unsigned {n = c .args .part} (omega arith), unsigned {n = c .args .day} (omega arith))))

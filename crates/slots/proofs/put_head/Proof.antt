@@ -11,8 +11,5 @@ pub put-head-spec : {M : Type 1} → statement M
 put-head-spec =
     tie.close
     (tie.spec
-    (λ c. search needs)
-    (λ c. search needs)
-    (λ c. simp length-set (omega arith))
-    (λ c. search needs)
+    (λ c. search needs) (λ c. search needs) (λ c. simp length-set (omega arith)) (λ c. search needs)
     (λ c. rw (toZ-pos w64 {n = c .args .count} (omega arith), toZ-ofZ {w = w64} {z = c .args .verdict} (search needs))))

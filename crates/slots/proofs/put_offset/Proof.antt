@@ -13,10 +13,7 @@ put-offset-spec =
     (tie.spec
     (λ c. few (c .if1 .taken))
     (λ c. far (omega arith))
-    (λ c κs. search needs)
-    (λ c. search (needs, signed-fits))
-    (λ c. search needs)
-    (λ c. search (needs, signed-fits))
+    (λ c κs. search needs) (λ c. search (needs, signed-fits)) (λ c. search needs) (λ c. search (needs, signed-fits))
     (λ c. simp length-set (omega arith))
     (λ c. simp (c .before .before .before .before .before .put-head .kept .0, length-set))
     (λ c.

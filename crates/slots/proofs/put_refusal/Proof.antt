@@ -15,7 +15,5 @@ put-refusal-spec =
     (tie.spec
     (λ c. few (c .if1 .taken))
     (λ c. far (omega arith))
-    (λ c κs. search needs)
-    (λ c κs. search needs)
-    (λ c. search needs)
+    (λ c κs. search needs) (λ c κs. search needs) (λ c. search needs)
     (λ c. put (omega arith) (omega arith) (answered (refl then toZ-ofZ {w = w64} (search needs) then refl) (c .before .before .put-head .ensures) (omega arith) (c .number .ensures))))

@@ -11,7 +11,5 @@ put-time-spec =
     (tie.spec
     (λ c. few (c .if1 .taken))
     (λ c. far (omega arith))
-    (λ c κs. search needs)
-    (λ c κs. search needs)
-    (λ c. search needs)
+    (λ c κs. search needs) (λ c κs. search needs) (λ c. search needs)
     (λ c. put (omega arith) (omega arith) (headed (search needs) (omega (arith, time-length (c .before .before .before .before .before .before .before .before .args .t))) (c .before .before .before .before .put-head .ensures) (c .before .put-time-from .ensures))))

@@ -13,11 +13,7 @@ pub put-time-from-spec : {M : Type 1} → statement M
 put-time-from-spec =
     tie.close
     (tie.spec
-    (λ c κs. search needs)
-    (λ c κs. search needs)
-    (λ c. search needs)
-    (λ c κs. search needs)
-    (λ c. search needs)
+    (λ c κs. search needs) (λ c κs. search needs) (λ c. search needs) (λ c κs. search needs) (λ c. search needs)
     (λ c.
     let a = c .before .before .before .before .before .before .before .before .before .before .args in
     goes-on (a .slots .now) (a .at) (pos (a .t .hour) ∷ pos (a .t .minute) ∷ pos (a .t .second) ∷ pos (a .t .nanosecond) ∷ []) (timeOffsetSlots (a .t .offset)) (by (c .before .before .before .before .before .before .before .before .before .shift-of .ensures) (toZ-ofZ (search needs) then toZ-ofZ (search needs) then toZ-ofZ (search needs) then refl)) (c .before .before .before .before .before .before .before .put-four .ensures) (c .before .put-three .ensures)))

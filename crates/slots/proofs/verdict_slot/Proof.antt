@@ -7,7 +7,6 @@ pub verdict-slot-spec : {M : Type 1} → statement M
 verdict-slot-spec =
     tie.close
     (tie.spec
-    (λ c. search needs)
-    (λ c. search needs)
+    (λ c. search needs) (λ c. search needs)
     (λ c. rw (c .enum-told .given .1))
     (λ c. rw (c .enum-told2 .given .1)))
