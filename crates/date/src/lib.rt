@@ -4,7 +4,7 @@ ghost use mathlib.Core.Path.{_≡_};
 ghost use mathlib.Core.Bool.{true};
 ghost use Rattle.parser.specs.Reading.{alt, Says};
 ghost use Rattle.parser.specs.Answer.{Begins, Ended, Rest};
-ghost use Rattle.parser.specs.Read.{markFound, markMore, numberFound, numberMore, placeAfter};
+ghost use Rattle.parser.specs.Read.{numberFound, numberMore, placeAfter};
 ghost use Rattle.date.specs.Rules.{digitsOfYear, year, dash, weekOfYear, week, dayOfWeek, weekAndDay, mdNumeric, dayOfYear, ordinal, dayOfMonth, monthAndDay, date};
 ghost use Rattle.date.specs.Answer.{yearFound, yearMore, dayFound, dayMore, dateFound, dateMore, dateTold, afterYear};
 use parser::Mark;
@@ -52,13 +52,6 @@ pub enum DateAnswer {
 pub struct DateRead {
     pub answer: DateAnswer,
     pub verdict: Verdict,
-}
-
-// -
-fn date_sep(s: &[u8], at: usize) -> Mark
-    ensures { λ r. ⌜ Says dash (now (s .entry)) at (markFound r) (markMore r) ⌝ }
-{
-    parser::literal(s, at, 45)
 }
 
 // [-]: the place after a separator, where there is one.

@@ -15,7 +15,6 @@ use Rattle.parser.proofs.Places.{no≢got, got-place, stop≢got}
 use Rattle.looks.specs.Digits.{twoNumber, twoDigits}
 use Rattle.looks.proofs.Two.{is-digit, two-is, two-some}
 use Rattle.parts.specs.Items.{itemOf, itemAt, partOf, absentPart, partAt}
-use Rattle.parts.specs.declared.Item.{Item}
 use Rattle.parts.specs.declared.Item.the-variants as item
 
 -- ---- a run that has a value ends inside the input, or open at its end
