@@ -1,4 +1,3 @@
 pub mod Parts
 pub mod Dash
 pub mod Laws
-pub mod Once

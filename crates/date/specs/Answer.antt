@@ -2,10 +2,8 @@
 use Prim.Native.Nat.{ℕ}
 use mathlib.Core.Bool.{Bool, true, false}
 use lib.IntN.{ℤ}
-use Rattle.types.specs.Numbers.{numberOf}
 use Rattle.types.specs.declared.Date.{Date}
 use Rattle.parser.specs.Reading.{Found, no, got, Reader, alt}
-use Rattle.parser.specs.Answer.{Told, recorded, refused}
 use Rattle.date.specs.Rules.{wd, mdNumeric, ddd, md}
 use Rattle.date.specs.declared.YearFound.{YearFound}
 use Rattle.date.specs.declared.YearFound.the-variants as year
@@ -13,8 +11,6 @@ use Rattle.date.specs.declared.DayFound.{DayFound}
 use Rattle.date.specs.declared.DayFound.the-variants as day
 use Rattle.date.specs.declared.DateFound.{DateFound}
 use Rattle.date.specs.declared.DateFound.the-variants as date
-use Rattle.date.specs.declared.DateAnswer.{DateAnswer}
-use Rattle.date.specs.declared.DateAnswer.the-variants.{Record, Refused}
 
 abbrev pub yearFound : YearFound → Found ℤ
 yearFound (year.Got v n) = got v n
@@ -47,8 +43,3 @@ dateMore date.Cut = true
 -- what follows the year, which the code reads once for the four alternatives; `proofs/Laws.antt` shows that both read alike
 unfoldable pub afterYear : ℤ → Reader Date
 afterYear y = alt (wd y) (alt (mdNumeric y) (alt (ddd y) (md y)))
-
--- the paper's number, the record if there is one, and the count
-abbrev pub dateTold : DateAnswer → Told Date
-dateTold (Record d n) = recorded d n
-dateTold (Refused why n) = refused (numberOf why) n

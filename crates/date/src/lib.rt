@@ -3,16 +3,13 @@
 ghost use mathlib.Core.Path.{_≡_};
 ghost use mathlib.Core.Bool.{true};
 ghost use Rattle.parser.specs.Reading.{alt, Says};
-ghost use Rattle.parser.specs.Answer.{Begins, Ended, Rest};
 ghost use Rattle.parser.specs.Read.{numberFound, numberMore, placeAfter};
 ghost use Rattle.date.specs.Rules.{digitsOfYear, year, dash, weekOfYear, week, dayOfWeek, weekAndDay, mdNumeric, dayOfYear, ordinal, dayOfMonth, monthAndDay, date};
-ghost use Rattle.date.specs.Answer.{yearFound, yearMore, dayFound, dayMore, dateFound, dateMore, dateTold, afterYear};
+ghost use Rattle.date.specs.Answer.{yearFound, yearMore, dayFound, dayMore, dateFound, dateMore, afterYear};
 use parser::Mark;
 use parser::Number;
 use parser::Signed;
 use types::Date;
-use types::Refusal;
-use types::Verdict;
 
 // What is read at one go, before the rule is asked.
 pub mod plain;
@@ -40,18 +37,6 @@ pub enum DateFound {
     },
     Wrong,
     Cut,
-}
-
-// A record with the count of its bytes; or a refusal with the bytes that the form took, 0 unless bytes are left over.
-pub enum DateAnswer {
-    Record { value: Date, count: usize },
-    Refused { why: Refusal, count: usize },
-}
-
-// The answer on a beginning, and whether a longer input could get another.
-pub struct DateRead {
-    pub answer: DateAnswer,
-    pub verdict: Verdict,
 }
 
 // [-]: the place after a separator, where there is one.
@@ -336,79 +321,5 @@ pub fn date_at(s: &[u8], at: usize) -> DateFound
         YearFound::Got { value, next } => after_year(s, next, value),
         YearFound::Wrong => DateFound::Wrong,
         YearFound::Cut => DateFound::Cut,
-    }
-}
-
-// Reads the date that the bytes begin with.
-pub fn date(s: &[u8]) -> DateRead
-    ensures { λ r. ⌜ Begins 7 date (now (s .entry)) (dateTold (r .answer)) (r .verdict) ⌝ }
-{
-    let found = plain::date_begun(s);
-    match found {
-        DateFound::Got { value, next, more } => DateRead {
-            answer: DateAnswer::Record { value, count: next },
-            verdict: parser::verdict_on(more),
-        },
-        DateFound::Wrong => DateRead {
-            answer: DateAnswer::Refused {
-                why: Refusal::NoForm,
-                count: 0,
-            },
-            verdict: Verdict::Settled,
-        },
-        DateFound::Cut => DateRead {
-            answer: DateAnswer::Refused {
-                why: Refusal::NoForm,
-                count: 0,
-            },
-            verdict: Verdict::Open,
-        },
-    }
-}
-
-// The bytes that `date` leaves: those after the date, or all of them where there is none.
-pub fn date_rest(s: &[u8]) -> &[u8]
-    ensures { λ r. ⌜ Rest date (now (s .entry)) (now r) ⌝ }
-{
-    let found = date_at(s, 0);
-    match found {
-        DateFound::Got {
-            value: _,
-            next,
-            more: _,
-        } => parser::leftover(s, next),
-        DateFound::Wrong => s,
-        DateFound::Cut => s,
-    }
-}
-
-// Reads bytes that are one date from the first to the last.
-pub fn parse_date(s: &[u8]) -> DateAnswer
-    ensures { λ r. ⌜ Ended date (now (s .entry)) (dateTold r) ⌝ }
-{
-    let found = date_at(s, 0);
-    match found {
-        DateFound::Got {
-            value,
-            next,
-            more: _,
-        } => {
-            if next < s.len() {
-                DateAnswer::Refused {
-                    why: Refusal::LeftOver,
-                    count: next,
-                }
-            } else {
-                DateAnswer::Record { value, count: next }
-            }
-        }
-        DateFound::Wrong => DateAnswer::Refused {
-            why: Refusal::NoForm,
-            count: 0,
-        },
-        DateFound::Cut => DateAnswer::Refused {
-            why: Refusal::NoForm,
-            count: 0,
-        },
     }
 }

@@ -7,7 +7,7 @@ use crate::date_at;
 use looks::PlainDate;
 
 // A date at the very beginning. The plain form is tried before the rule.
-pub(crate) fn date_begun(s: &[u8]) -> DateFound
+pub fn date_begun(s: &[u8]) -> DateFound
     ensures { λ r. ⌜ Says date (now (s .entry)) 0 (dateFound r) (dateMore r) ⌝ }
 {
     let plain = looks::plain_date(s);

@@ -1,13 +1,9 @@
 -- The code's answers as the paper's.
 use mathlib.Core.Bool.{Bool, true, false}
 use Rattle.types.specs.declared.DateTime.{DateTime}
-use Rattle.types.specs.Numbers.{numberOf}
 use Rattle.parser.specs.Reading.{Found, no, got}
-use Rattle.parser.specs.Answer.{Told, recorded, refused}
 use Rattle.datetime.specs.declared.DateTimeFound.{DateTimeFound}
 use Rattle.datetime.specs.declared.DateTimeFound.the-variants as found
-use Rattle.datetime.specs.declared.DateTimeAnswer.{DateTimeAnswer}
-use Rattle.datetime.specs.declared.DateTimeAnswer.the-variants as answer
 
 abbrev pub dateTimeFound : DateTimeFound → Found DateTime
 dateTimeFound (found.Got d n m) = got d n
@@ -18,7 +14,3 @@ abbrev pub dateTimeMore : DateTimeFound → Bool
 dateTimeMore (found.Got d n m) = m
 dateTimeMore found.Wrong = false
 dateTimeMore found.Cut = true
-
-abbrev pub dateTimeTold : DateTimeAnswer → Told DateTime
-dateTimeTold (answer.Record d n) = recorded d n
-dateTimeTold (answer.Refused r n) = refused (numberOf r) n

@@ -65,7 +65,7 @@ fn plain_stamp(s: &[u8]) -> PlainStamp
 }
 
 // A date-time at the very beginning. The plain form is tried before the rule.
-pub(crate) fn datetime_begun(s: &[u8]) -> DateTimeFound
+pub fn datetime_begun(s: &[u8]) -> DateTimeFound
     ensures { λ r. ⌜ Says dateTime (now (s .entry)) 0 (dateTimeFound r) (dateTimeMore r) ⌝ }
 {
     let plain = plain_stamp(s);

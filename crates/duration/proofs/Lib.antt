@@ -2,4 +2,3 @@ pub mod Laws
 pub mod Items
 pub mod Reading
 pub mod Whole
-pub mod Once

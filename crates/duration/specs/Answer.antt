@@ -1,16 +1,12 @@
 -- The code's answers as the paper's.
 use mathlib.Core.Bool.{Bool, true, false}
 use Rattle.types.specs.declared.Duration.{Duration}
-use Rattle.types.specs.Numbers.{numberOf}
 use Rattle.parser.specs.Reading.{Found, no, got, stop}
-use Rattle.parser.specs.Answer.{Told, recorded, refused}
 use Rattle.duration.specs.declared.DurationTimeParts.{DurationTimeParts}
 use Rattle.duration.specs.declared.TimeFound.{TimeFound}
 use Rattle.duration.specs.declared.TimeFound.the-variants as time
 use Rattle.duration.specs.declared.DurationFound.{DurationFound}
 use Rattle.duration.specs.declared.DurationFound.the-variants as found
-use Rattle.duration.specs.declared.DurationAnswer.{DurationAnswer}
-use Rattle.duration.specs.declared.DurationAnswer.the-variants as answer
 
 abbrev pub timeFound : TimeFound → Found DurationTimeParts
 timeFound (time.Got t n m) = got t n
@@ -35,7 +31,3 @@ durationMore (found.Got d n m) = m
 durationMore found.TooBig = false
 durationMore found.Wrong = false
 durationMore found.Cut = true
-
-abbrev pub durationTold : DurationAnswer → Told Duration
-durationTold (answer.Record d n) = recorded d n
-durationTold (answer.Refused r n) = refused (numberOf r) n

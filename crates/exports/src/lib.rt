@@ -7,12 +7,12 @@ ghost use Rattle.datetime.specs.Rules.{dateTime};
 ghost use Rattle.duration.specs.Rules.{duration};
 ghost use Rattle.slots.specs.Slots.{offsetSlots, timeSlots, dateSlots, dateTimeSlots, durationSlots};
 ghost use Rattle.exports.specs.Promises.{BeginsIn, EndsIn};
-use date::DateAnswer;
-use datetime::DateTimeAnswer;
-use duration::DurationAnswer;
-use offset::OffsetAnswer;
+use dates::DateAnswer;
+use datetimes::DateTimeAnswer;
+use durations::DurationAnswer;
+use offsets::OffsetAnswer;
 use slots::TOO_FEW;
-use time::TimeAnswer;
+use times::TimeAnswer;
 
 // The verdict slot of a whole reader, which gives none.
 const NO_VERDICT: i64 = -1;
@@ -25,7 +25,7 @@ pub extern "C" fn tirozhbar_offset(s: &[u8], slots: &mut [i64]) -> u32
     if slots.len() < 4 {
         return TOO_FEW;
     }
-    let read = offset::offset(s);
+    let read = offsets::offset(s);
     let judged = read.verdict;
     let verdict = slots::verdict_slot(judged);
     let answer = read.answer;
@@ -43,7 +43,7 @@ pub extern "C" fn tirozhbar_parse_offset(s: &[u8], slots: &mut [i64]) -> u32
     if slots.len() < 4 {
         return TOO_FEW;
     }
-    let answer = offset::parse_offset(s);
+    let answer = offsets::parse_offset(s);
     match answer {
         OffsetAnswer::Record { value, count } => slots::put_offset(slots, count, NO_VERDICT, value),
         OffsetAnswer::Refused { why, count } => slots::put_refusal(slots, count, NO_VERDICT, why),
@@ -58,7 +58,7 @@ pub extern "C" fn tirozhbar_time(s: &[u8], slots: &mut [i64]) -> u32
     if slots.len() < 9 {
         return TOO_FEW;
     }
-    let read = time::time(s);
+    let read = times::time(s);
     let judged = read.verdict;
     let verdict = slots::verdict_slot(judged);
     let answer = read.answer;
@@ -76,7 +76,7 @@ pub extern "C" fn tirozhbar_parse_time(s: &[u8], slots: &mut [i64]) -> u32
     if slots.len() < 9 {
         return TOO_FEW;
     }
-    let answer = time::parse_time(s);
+    let answer = times::parse_time(s);
     match answer {
         TimeAnswer::Record { value, count } => slots::put_time(slots, count, NO_VERDICT, value),
         TimeAnswer::Refused { why, count } => slots::put_refusal(slots, count, NO_VERDICT, why),
@@ -91,7 +91,7 @@ pub extern "C" fn tirozhbar_date(s: &[u8], slots: &mut [i64]) -> u32
     if slots.len() < 6 {
         return TOO_FEW;
     }
-    let read = date::date(s);
+    let read = dates::date(s);
     let judged = read.verdict;
     let verdict = slots::verdict_slot(judged);
     let answer = read.answer;
@@ -109,7 +109,7 @@ pub extern "C" fn tirozhbar_parse_date(s: &[u8], slots: &mut [i64]) -> u32
     if slots.len() < 6 {
         return TOO_FEW;
     }
-    let answer = date::parse_date(s);
+    let answer = dates::parse_date(s);
     match answer {
         DateAnswer::Record { value, count } => slots::put_date(slots, count, NO_VERDICT, value),
         DateAnswer::Refused { why, count } => slots::put_refusal(slots, count, NO_VERDICT, why),
@@ -124,7 +124,7 @@ pub extern "C" fn tirozhbar_datetime(s: &[u8], slots: &mut [i64]) -> u32
     if slots.len() < 13 {
         return TOO_FEW;
     }
-    let read = datetime::datetime(s);
+    let read = datetimes::datetime(s);
     let judged = read.verdict;
     let verdict = slots::verdict_slot(judged);
     let answer = read.answer;
@@ -147,7 +147,7 @@ pub extern "C" fn tirozhbar_parse_datetime(s: &[u8], slots: &mut [i64]) -> u32
     if slots.len() < 13 {
         return TOO_FEW;
     }
-    let answer = datetime::parse_datetime(s);
+    let answer = datetimes::parse_datetime(s);
     match answer {
         DateTimeAnswer::Record { value, count } => slots::put_datetime(
             slots,
@@ -167,7 +167,7 @@ pub extern "C" fn tirozhbar_duration(s: &[u8], slots: &mut [i64]) -> u32
     if slots.len() < 9 {
         return TOO_FEW;
     }
-    let read = duration::duration(s);
+    let read = durations::duration(s);
     let judged = read.verdict;
     let verdict = slots::verdict_slot(judged);
     let answer = read.answer;
@@ -190,7 +190,7 @@ pub extern "C" fn tirozhbar_parse_duration(s: &[u8], slots: &mut [i64]) -> u32
     if slots.len() < 9 {
         return TOO_FEW;
     }
-    let answer = duration::parse_duration(s);
+    let answer = durations::parse_duration(s);
     match answer {
         DurationAnswer::Record { value, count } => slots::put_duration(
             slots,

@@ -2,27 +2,27 @@
 // kind's own function does; who knows the kind calls that, and is served faster.
 ghost use mathlib.Core.Path.{_≡_};
 ghost use Rattle.parser.specs.Answer.{Begins, Ended, Rest};
-ghost use Rattle.date.specs.Answer.{dateTold};
-ghost use Rattle.time.specs.Answer.{timeTold};
-ghost use Rattle.offset.specs.Answer.{offsetTold};
-ghost use Rattle.datetime.specs.Answer.{dateTimeTold};
-ghost use Rattle.duration.specs.Answer.{durationTold};
+ghost use Rattle.dates.specs.Answer.{dateTold};
+ghost use Rattle.times.specs.Answer.{timeTold};
+ghost use Rattle.offsets.specs.Answer.{offsetTold};
+ghost use Rattle.datetimes.specs.Answer.{dateTimeTold};
+ghost use Rattle.durations.specs.Answer.{durationTold};
 ghost use Rattle.kinds.specs.Kinds.{ruleOf, bound, letterOf, told, toldAs};
 use crate::answer::Answer;
 use crate::answer::Kind;
 use crate::answer::Letter;
 use crate::answer::Read;
 use crate::answer::Record;
-use date::DateAnswer;
-use date::DateRead;
-use datetime::DateTimeAnswer;
-use datetime::DateTimeRead;
-use duration::DurationAnswer;
-use duration::DurationRead;
-use offset::OffsetAnswer;
-use offset::OffsetRead;
-use time::TimeAnswer;
-use time::TimeRead;
+use dates::DateAnswer;
+use dates::DateRead;
+use datetimes::DateTimeAnswer;
+use datetimes::DateTimeRead;
+use durations::DurationAnswer;
+use durations::DurationRead;
+use offsets::OffsetAnswer;
+use offsets::OffsetRead;
+use times::TimeAnswer;
+use times::TimeRead;
 
 pub mod answer;
 
@@ -160,11 +160,11 @@ pub fn read(kind: Kind, s: &[u8]) -> Read
     ensures { λ r. ⌜ Begins (bound kind) (ruleOf kind) (now (s .entry)) (told (r .answer)) (r .verdict) ⌝ }
 {
     match kind {
-        Kind::Date => date_read(date::date(s)),
-        Kind::Time => time_read(time::time(s)),
-        Kind::Offset => offset_read(offset::offset(s)),
-        Kind::Stamp => datetime_read(datetime::datetime(s)),
-        Kind::Duration => duration_read(duration::duration(s)),
+        Kind::Date => date_read(dates::date(s)),
+        Kind::Time => time_read(times::time(s)),
+        Kind::Offset => offset_read(offsets::offset(s)),
+        Kind::Stamp => datetime_read(datetimes::datetime(s)),
+        Kind::Duration => duration_read(durations::duration(s)),
     }
 }
 
@@ -173,11 +173,11 @@ pub fn rest(kind: Kind, s: &[u8]) -> &[u8]
     ensures { λ r. ⌜ Rest (ruleOf kind) (now (s .entry)) (now r) ⌝ }
 {
     match kind {
-        Kind::Date => date::date_rest(s),
-        Kind::Time => time::time_rest(s),
-        Kind::Offset => offset::offset_rest(s),
-        Kind::Stamp => datetime::datetime_rest(s),
-        Kind::Duration => duration::duration_rest(s),
+        Kind::Date => dates::date_rest(s),
+        Kind::Time => times::time_rest(s),
+        Kind::Offset => offsets::offset_rest(s),
+        Kind::Stamp => datetimes::datetime_rest(s),
+        Kind::Duration => durations::duration_rest(s),
     }
 }
 
@@ -186,10 +186,10 @@ pub fn parse(kind: Kind, s: &[u8]) -> Answer
     ensures { λ r. ⌜ Ended (ruleOf kind) (now (s .entry)) (told r) ⌝ }
 {
     match kind {
-        Kind::Date => of_date(date::parse_date(s)),
-        Kind::Time => of_time(time::parse_time(s)),
-        Kind::Offset => of_offset(offset::parse_offset(s)),
-        Kind::Stamp => of_datetime(datetime::parse_datetime(s)),
-        Kind::Duration => of_duration(duration::parse_duration(s)),
+        Kind::Date => of_date(dates::parse_date(s)),
+        Kind::Time => of_time(times::parse_time(s)),
+        Kind::Offset => of_offset(offsets::parse_offset(s)),
+        Kind::Stamp => of_datetime(datetimes::parse_datetime(s)),
+        Kind::Duration => of_duration(durations::parse_duration(s)),
     }
 }

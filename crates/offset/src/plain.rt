@@ -7,7 +7,7 @@ use crate::offset_at;
 use looks::PlainOffset;
 
 // An offset at the very beginning. The plain forms are tried before the rule.
-pub(crate) fn offset_begun(s: &[u8]) -> OffsetFound
+pub fn offset_begun(s: &[u8]) -> OffsetFound
     ensures { λ r. ⌜ Says offset (now (s .entry)) 0 (offsetFound r) (offsetMore r) ⌝ }
 {
     let plain = looks::plain_offset(s, 0);

@@ -2,17 +2,13 @@
 use Prim.Native.Nat.{ℕ}
 use mathlib.Core.Bool.{Bool, true, false}
 use Rattle.types.specs.declared.Time.{Time}
-use Rattle.types.specs.Numbers.{numberOf}
 use Rattle.parser.specs.Reading.{Found, no, got}
-use Rattle.parser.specs.Answer.{Told, recorded, refused}
 use Rattle.time.specs.Rules.{Clock}
 use Rattle.time.specs.declared.ClockFound.{ClockFound}
 use Rattle.time.specs.declared.ClockFound.the-variants as clock
 use Rattle.time.specs.declared.ClockPart.{ClockPart}
 use Rattle.time.specs.declared.TimeFound.{TimeFound}
 use Rattle.time.specs.declared.TimeFound.the-variants as found
-use Rattle.time.specs.declared.TimeAnswer.{TimeAnswer}
-use Rattle.time.specs.declared.TimeAnswer.the-variants as answer
 
 abbrev pub clockFound : ClockFound → Found Clock
 clockFound (clock.Got mi se na n m) = got (record { minute = mi; second = se; nanosecond = na }) n
@@ -42,7 +38,3 @@ abbrev pub timeMore : TimeFound → Bool
 timeMore (found.Got t n m) = m
 timeMore found.Wrong = false
 timeMore found.Cut = true
-
-abbrev pub timeTold : TimeAnswer → Told Time
-timeTold (answer.Record t n) = recorded t n
-timeTold (answer.Refused r n) = refused (numberOf r) n

@@ -2,17 +2,14 @@
 ghost use mathlib.Core.Path.{_≡_};
 ghost use mathlib.Core.Option.{none};
 ghost use Rattle.parser.specs.Reading.{Says, SaysOn, got};
-ghost use Rattle.parser.specs.Answer.{Begins, Ended, Rest, refused, ended};
 ghost use Rattle.time.specs.Rules.{clockOf, timeOf, millisecond, secondMillisecond, minuteSecondMillisecond, timeOffset, afterHour, baseTime, time};
-ghost use Rattle.time.specs.Answer.{clockFound, clockMore, midnightAt, orLeftOut, timeFound, timeMore, timeTold};
+ghost use Rattle.time.specs.Answer.{clockFound, clockMore, midnightAt, orLeftOut, timeFound, timeMore};
 use offset::OffsetFound;
 use parser::Mark;
 use parser::Number;
 use runs::Run;
-use types::Refusal;
 use types::Time;
 use types::TimeOffset;
-use types::Verdict;
 
 // What is read at one go, before the rule is asked.
 pub mod plain;
@@ -40,18 +37,6 @@ pub enum TimeFound {
     },
     Wrong,
     Cut,
-}
-
-// A record with the count of its bytes; or a refusal with the bytes that the form took, 0 unless bytes are left over.
-pub enum TimeAnswer {
-    Record { value: Time, count: usize },
-    Refused { why: Refusal, count: usize },
-}
-
-// The answer on a beginning, and whether a longer input could get another.
-pub struct TimeRead {
-    pub answer: TimeAnswer,
-    pub verdict: Verdict,
 }
 
 // A clock without a fraction.
@@ -254,83 +239,4 @@ pub fn time_at(s: &[u8], at: usize) -> TimeFound
     ensures { λ r. ⌜ Says time (now (s .entry)) at (timeFound r) (timeMore r) ⌝ }
 {
     base_time(s, parser::past(s, at, 84))
-}
-
-// Reads the time that the bytes begin with.
-pub fn time(s: &[u8]) -> TimeRead
-    ensures { λ r. ⌜ Begins 3 time (now (s .entry)) (timeTold (r .answer)) (r .verdict) ⌝ }
-{
-    let found = plain::time_begun(s);
-    match found {
-        TimeFound::Got { value, next, more } => TimeRead {
-            answer: TimeAnswer::Record { value, count: next },
-            verdict: parser::verdict_on(more),
-        },
-        TimeFound::Wrong => no_form(Verdict::Settled),
-        TimeFound::Cut => no_form(Verdict::Open),
-    }
-}
-
-fn no_form(verdict: Verdict) -> TimeRead
-    ensures { λ r. ⌜ (timeTold (r .answer) ≡ refused 1 0) × (r .verdict ≡ verdict) ⌝ }
-{
-    TimeRead {
-        answer: TimeAnswer::Refused {
-            why: Refusal::NoForm,
-            count: 0,
-        },
-        verdict,
-    }
-}
-
-// The bytes that `time` leaves: those after the time, or all of them where there is none.
-pub fn time_rest(s: &[u8]) -> &[u8]
-    ensures { λ r. ⌜ Rest time (now (s .entry)) (now r) ⌝ }
-{
-    let found = time_at(s, 0);
-    match found {
-        TimeFound::Got {
-            value: _,
-            next,
-            more: _,
-        } => parser::leftover(s, next),
-        TimeFound::Wrong => s,
-        TimeFound::Cut => s,
-    }
-}
-
-// Reads bytes that are one time from the first to the last.
-pub fn parse_time(s: &[u8]) -> TimeAnswer
-    ensures { λ r. ⌜ Ended time (now (s .entry)) (timeTold r) ⌝ }
-{
-    let found = time_at(s, 0);
-    match found {
-        TimeFound::Got {
-            value,
-            next,
-            more: _,
-        } => whole_time(value, next, s.len()),
-        TimeFound::Wrong => TimeAnswer::Refused {
-            why: Refusal::NoForm,
-            count: 0,
-        },
-        TimeFound::Cut => TimeAnswer::Refused {
-            why: Refusal::NoForm,
-            count: 0,
-        },
-    }
-}
-
-// A record, unless bytes are left over.
-fn whole_time(value: Time, count: usize, length: usize) -> TimeAnswer
-    ensures { λ r. ⌜ timeTold r ≡ ended length (got value count) ⌝ }
-{
-    if count < length {
-        TimeAnswer::Refused {
-            why: Refusal::LeftOver,
-            count,
-        }
-    } else {
-        TimeAnswer::Record { value, count }
-    }
 }

@@ -89,7 +89,7 @@ pub fn first_plain(first: PlainTime, second: PlainTime) -> PlainTime
 }
 
 // A time at the very beginning. The plain forms HH:MM:SS.mmm and HH:MM:SS, alone or with an offset, are tried before the rule.
-pub(crate) fn time_begun(s: &[u8]) -> TimeFound
+pub fn time_begun(s: &[u8]) -> TimeFound
     ensures { λ r. ⌜ Says time (now (s .entry)) 0 (timeFound r) (timeMore r) ⌝ }
 {
     let clock = looks::plain_clock(s, 0);

@@ -2,7 +2,7 @@
 use mathlib.Core.Path.{ap}
 use native.Mathlib.Omega.{arith}
 use borrow.Author.Needs.{needs}
-use Rattle.date.specs.Answer.{dateTold}
+use Rattle.dates.specs.Answer.{dateTold}
 use Rattle.date.proofs.Laws.{date-bounded}
 use Rattle.exports.proofs.Laws.{begins-few, begins, refusal}
 use Rattle.exports.proofs.tirozhbar_date.Statement.{statement}

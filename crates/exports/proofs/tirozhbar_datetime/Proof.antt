@@ -2,7 +2,7 @@
 use mathlib.Core.Path.{ap}
 use native.Mathlib.Omega.{arith}
 use borrow.Author.Needs.{needs}
-use Rattle.datetime.specs.Answer.{dateTimeTold}
+use Rattle.datetimes.specs.Answer.{dateTimeTold}
 use Rattle.datetime.proofs.Laws.{datetime-bounded}
 use Rattle.exports.proofs.Laws.{begins-few, begins, refusal}
 use Rattle.exports.proofs.tirozhbar_datetime.Statement.{statement}

@@ -2,7 +2,7 @@
 use mathlib.Core.Path.{ap}
 use native.Mathlib.Omega.{arith}
 use borrow.Author.Needs.{needs}
-use Rattle.duration.specs.Answer.{durationTold}
+use Rattle.durations.specs.Answer.{durationTold}
 use Rattle.duration.proofs.Laws.{duration-bounded}
 use Rattle.exports.proofs.Laws.{begins-few, begins, refusal}
 use Rattle.exports.proofs.tirozhbar_duration.Statement.{statement}

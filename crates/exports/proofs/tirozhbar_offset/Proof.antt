@@ -2,7 +2,7 @@
 use mathlib.Core.Path.{ap}
 use native.Mathlib.Omega.{arith}
 use borrow.Author.Needs.{needs}
-use Rattle.offset.specs.Answer.{offsetTold}
+use Rattle.offsets.specs.Answer.{offsetTold}
 use Rattle.offset.proofs.Laws.{offset-bounded}
 use Rattle.exports.proofs.Laws.{begins-few, begins, refusal}
 use Rattle.exports.proofs.tirozhbar_offset.Statement.{statement}

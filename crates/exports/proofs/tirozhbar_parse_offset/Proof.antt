@@ -2,7 +2,7 @@
 use mathlib.Core.Path.{ap}
 use native.Mathlib.Omega.{arith}
 use borrow.Author.Needs.{needs}
-use Rattle.offset.specs.Answer.{offsetTold}
+use Rattle.offsets.specs.Answer.{offsetTold}
 use Rattle.offset.proofs.Laws.{offset-bounded}
 use Rattle.exports.proofs.Laws.{ends-few, ends, refusal}
 use Rattle.exports.proofs.tirozhbar_parse_offset.Statement.{statement}

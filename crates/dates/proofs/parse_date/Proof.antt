@@ -1,0 +1,53 @@
+-- By what was found, and by whether it ends where the input does.
+use mathlib.Core.Path.{ap}
+use lib.ListN.{length}
+use borrow.Author.Tests.{lt-ltb, le-ltb}
+use Rattle.parser.specs.Answer.{ended}
+use borrow.Author.Needs.{needs}
+use Rattle.dates.proofs.parse_date.Statement.{statement}
+use Rattle.dates.proofs.parse_date.Tie as tie
+
+date-at-requires : tie.Need-date-at-requires
+date-at-requires c κs = search needs
+
+enum-known-found : tie.Need-enum-known-found
+enum-known-found c = search needs
+
+enum-told : tie.Need-enum-told
+enum-told c = search needs
+
+enum-told-2 : tie.Need-enum-told-2
+enum-told-2 c = search needs
+
+returns : tie.Need-returns
+returns c =
+    let a = c .before .before .before .before .before .before .args in
+    rw (lt-ltb _ _ (c .if1 .taken)) at (ap (ended (length (a .s .now))) (rw (c .before .before .found .given .1) at (c .before .before .before .before .date-at .ensures) .found))
+
+returns-2 : tie.Need-returns-2
+returns-2 c =
+    let a = c .before .before .before .before .before .before .args in
+    rw (le-ltb _ _ (c .if1 .left)) at (ap (ended (length (a .s .now))) (rw (c .before .before .found .given .1) at (c .before .before .before .before .date-at .ensures) .found))
+
+returns-3 : tie.Need-returns-3
+returns-3 c =
+    let a = c .before .before .before .before .args in
+    ap (ended (length (a .s .now))) (rw (c .enum-told .given .1) at (c .before .before .date-at .ensures) .found)
+
+returns-4 : tie.Need-returns-4
+returns-4 c =
+    let a = c .before .before .before .before .args in
+    ap (ended (length (a .s .now))) (rw (c .enum-told2 .given .1) at (c .before .before .date-at .ensures) .found)
+
+pub parse-date-spec : {M : Type 1} → statement M
+parse-date-spec =
+    tie.close
+    (tie.spec
+    date-at-requires
+    enum-known-found
+    enum-told
+    enum-told-2
+    returns
+    returns-2
+    returns-3
+    returns-4)

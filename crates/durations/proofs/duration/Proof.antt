@@ -1,0 +1,62 @@
+-- What `duration_at` says at the beginning is what the reader promises.
+use Rattle.duration.proofs.Laws.{duration-begins}
+use borrow.Author.Needs.{needs}
+use Rattle.durations.proofs.duration.Statement.{statement}
+use Rattle.durations.proofs.duration.Tie as tie
+
+duration-at-requires : tie.Need-duration-at-requires
+duration-at-requires c κs = search needs
+
+enum-known-found : tie.Need-enum-known-found
+enum-known-found c = search needs
+
+verdict-on-requires : tie.Need-verdict-on-requires
+verdict-on-requires c κs = search needs
+
+enum-told : tie.Need-enum-told
+enum-told c = search needs
+
+refused-requires : tie.Need-refused-requires
+refused-requires c κs = search needs
+
+enum-told-2 : tie.Need-enum-told-2
+enum-told-2 c = search needs
+
+refused-requires-2 : tie.Need-refused-requires-2
+refused-requires-2 c κs = search needs
+
+enum-told-3 : tie.Need-enum-told-3
+enum-told-3 c = search needs
+
+refused-requires-3 : tie.Need-refused-requires-3
+refused-requires-3 c κs = search needs
+
+returns : tie.Need-returns
+returns c = rw (c .verdict-on .ensures) (duration-begins (c .before .before .before .before .before .before .args .s .now) _ _ (rw (c .before .before .found .given .1) at (c .before .before .before .before .duration-at .ensures)))
+
+returns-2 : tie.Need-returns-2
+returns-2 c = rw (c .refused .ensures .0, c .refused .ensures .1) (duration-begins (c .before .before .before .before .before .args .s .now) _ _ (rw (c .before .enum-told .given .1) at (c .before .before .before .duration-at .ensures)))
+
+returns-3 : tie.Need-returns-3
+returns-3 c = rw (c .refused2 .ensures .0, c .refused2 .ensures .1) (duration-begins (c .before .before .before .before .before .args .s .now) _ _ (rw (c .before .enum-told2 .given .1) at (c .before .before .before .duration-at .ensures)))
+
+returns-4 : tie.Need-returns-4
+returns-4 c = rw (c .refused3 .ensures .0, c .refused3 .ensures .1) (duration-begins (c .before .before .before .before .before .args .s .now) _ _ (rw (c .before .enum-told3 .given .1) at (c .before .before .before .duration-at .ensures)))
+
+pub duration-spec : {M : Type 1} → statement M
+duration-spec =
+    tie.close
+    (tie.spec
+    duration-at-requires
+    enum-known-found
+    verdict-on-requires
+    enum-told
+    refused-requires
+    enum-told-2
+    refused-requires-2
+    enum-told-3
+    refused-requires-3
+    returns
+    returns-2
+    returns-3
+    returns-4)

@@ -1,0 +1,60 @@
+-- What the code says of the rule is the promise, by the laws of the kind.
+use mathlib.Core.Bool.{true, false}
+use Rattle.parser.proofs.Hopeful.{Anything}
+use Rattle.parser.proofs.Verdict.{says-begins}
+use Rattle.time.specs.Rules.{time}
+use Rattle.time.proofs.Laws.{time-stable, time-bounded, time-hopeful}
+use borrow.Author.Needs.{needs}
+use Rattle.times.proofs.time.Statement.{statement}
+use Rattle.times.proofs.time.Tie as tie
+
+time-begun-requires : tie.Need-time-begun-requires
+time-begun-requires c κs = search needs
+
+enum-known-found : tie.Need-enum-known-found
+enum-known-found c = search needs
+
+verdict-on-requires : tie.Need-verdict-on-requires
+verdict-on-requires c κs = search needs
+
+enum-told : tie.Need-enum-told
+enum-told c = search needs
+
+no-form-requires : tie.Need-no-form-requires
+no-form-requires c κs = search needs
+
+enum-told-2 : tie.Need-enum-told-2
+enum-told-2 c = search needs
+
+no-form-requires-2 : tie.Need-no-form-requires-2
+no-form-requires-2 c κs = search needs
+
+returns : tie.Need-returns
+returns c =
+    let a = c .before .before .before .before .before .before .args in
+    rw (c .verdict-on .ensures) (says-begins 3 Anything time time-stable time-bounded time-hopeful (a .s .now) _ _ (rw (c .before .before .found .given .1) at (c .before .before .before .before .time-begun .ensures)))
+
+returns-2 : tie.Need-returns-2
+returns-2 c =
+    let a = c .before .before .before .before .before .args in
+    rw (c .no-form .ensures .0, c .no-form .ensures .1) (says-begins 3 Anything time time-stable time-bounded time-hopeful (a .s .now) _ false (rw (c .before .enum-told .given .1) at (c .before .before .before .time-begun .ensures)))
+
+returns-3 : tie.Need-returns-3
+returns-3 c =
+    let a = c .before .before .before .before .before .args in
+    rw (c .no-form2 .ensures .0, c .no-form2 .ensures .1) (says-begins 3 Anything time time-stable time-bounded time-hopeful (a .s .now) _ true (rw (c .before .enum-told2 .given .1) at (c .before .before .before .time-begun .ensures)))
+
+pub time-spec : {M : Type 1} → statement M
+time-spec =
+    tie.close
+    (tie.spec
+    time-begun-requires
+    enum-known-found
+    verdict-on-requires
+    enum-told
+    no-form-requires
+    enum-told-2
+    no-form-requires-2
+    returns
+    returns-2
+    returns-3)
