@@ -3,11 +3,12 @@
 ghost use mathlib.Core.Path.{_≡_};
 ghost use mathlib.Core.Bool.{true};
 ghost use Rattle.parser.specs.Reading.{alt, Says};
-ghost use Rattle.parser.specs.Read.{numberFound, numberMore, placeAfter};
+ghost use Rattle.parser.specs.Read.{placeAfter};
+ghost use Rattle.fields.specs.Read.{numberFound, numberMore};
 ghost use Rattle.date.specs.Rules.{digitsOfYear, year, dash, weekOfYear, week, dayOfWeek, weekAndDay, mdNumeric, dayOfYear, ordinal, dayOfMonth, monthAndDay, date};
 ghost use Rattle.date.specs.Answer.{yearFound, yearMore, dayFound, dayMore, dateFound, dateMore, afterYear};
+use fields::Number;
 use parser::Mark;
-use parser::Number;
 use parser::Signed;
 use types::Date;
 
@@ -50,7 +51,7 @@ fn past_sep(s: &[u8], at: usize) -> usize
 fn digits_of_year(s: &[u8], at: usize, minus: bool) -> YearFound
     ensures { λ r. ⌜ Says (digitsOfYear minus) (now (s .entry)) at (yearFound r) (yearMore r) ⌝ }
 {
-    let number = parser::take_digits_in_range(s, at, 4, 100, 9999);
+    let number = fields::take_digits_in_range(s, at, 4, 100, 9999);
     match number {
         Number::Got { value, next } => YearFound::Got {
             value: types::with_sign(minus, value as u16),
@@ -77,7 +78,7 @@ fn date_year(s: &[u8], at: usize) -> YearFound
 fn week_of_year(s: &[u8], at: usize) -> Number
     ensures { λ r. ⌜ Says weekOfYear (now (s .entry)) at (numberFound r) (numberMore r) ⌝ }
 {
-    parser::take_digits_in_range(s, at, 2, 1, 52)
+    fields::take_digits_in_range(s, at, 2, 1, 52)
 }
 
 // Www
@@ -97,7 +98,7 @@ fn day_of_week(s: &[u8], at: usize) -> DayFound
     ensures { λ r. ⌜ Says dayOfWeek (now (s .entry)) at (dayFound r) (dayMore r) ⌝ }
 {
     let from = past_sep(s, at);
-    let digit = parser::digit_1(s, from);
+    let digit = fields::digit_1(s, from);
     match digit {
         Number::Got { value, next } => {
             if value < 1 {
@@ -155,10 +156,10 @@ fn date_ywd(s: &[u8], at: usize, year: i32) -> DateFound
 fn date_ymd_numeric(s: &[u8], at: usize, year: i32) -> DateFound
     ensures { λ r. ⌜ Says (mdNumeric year) (now (s .entry)) at (dateFound r) (dateMore r) ⌝ }
 {
-    let month_found = parser::date_month(s, at);
+    let month_found = fields::date_month(s, at);
     match month_found {
         Number::Got { value: month, next } => {
-            let day_found = parser::date_day(s, next);
+            let day_found = fields::date_day(s, next);
             match day_found {
                 Number::Got { value: day, next } => DateFound::Got {
                     value: Date::YMD { year, month, day },
@@ -178,7 +179,7 @@ fn date_ymd_numeric(s: &[u8], at: usize, year: i32) -> DateFound
 fn date_day_of_year(s: &[u8], at: usize) -> Number
     ensures { λ r. ⌜ Says dayOfYear (now (s .entry)) at (numberFound r) (numberMore r) ⌝ }
 {
-    parser::take_digits_in_range(s, at, 3, 1, 366)
+    fields::take_digits_in_range(s, at, 3, 1, 366)
 }
 
 // DDD
@@ -202,7 +203,7 @@ fn day_of_month(s: &[u8], at: usize) -> DayFound
     ensures { λ r. ⌜ Says dayOfMonth (now (s .entry)) at (dayFound r) (dayMore r) ⌝ }
 {
     let from = past_sep(s, at);
-    let day_found = parser::date_day(s, from);
+    let day_found = fields::date_day(s, from);
     match day_found {
         Number::Got { value, next } => DayFound::Got {
             value,
@@ -226,7 +227,7 @@ fn day_of_month(s: &[u8], at: usize) -> DayFound
 fn date_ymd(s: &[u8], at: usize, year: i32) -> DateFound
     ensures { λ r. ⌜ Says (monthAndDay year) (now (s .entry)) at (dateFound r) (dateMore r) ⌝ }
 {
-    let month_found = parser::date_month(s, at);
+    let month_found = fields::date_month(s, at);
     match month_found {
         Number::Got { value: month, next } => {
             let day_found = day_of_month(s, next);

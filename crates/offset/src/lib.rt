@@ -6,8 +6,8 @@ ghost use Rattle.types.specs.Sums.{signedOffset};
 ghost use Rattle.parser.specs.Reading.{Says, got, no, pick};
 ghost use Rattle.offset.specs.Rules.{offset, offsetHour, offsetMinute, offsetZulu, allowed};
 ghost use Rattle.offset.specs.Answer.{offsetFound, offsetMore};
+use fields::Number;
 use parser::Mark;
-use parser::Number;
 use parser::Signed;
 use types::MadeOffset;
 use types::Offset;
@@ -71,7 +71,7 @@ fn offset_minute(s: &[u8], at: usize, minus: bool, hour: u32) -> OffsetFound
     requires { ⌜ hour ≤ 23 ⌝ }
     ensures { λ r. ⌜ Says (offsetMinute minus hour) (now (s .entry)) at (offsetFound r) (offsetMore r) ⌝ }
 {
-    let minute = parser::or_left_out(at, parser::after_colon(s, at, 59));
+    let minute = fields::or_left_out(at, fields::after_colon(s, at, 59));
     signed_offset(minus, hour, minute.value, minute.next, minute.more)
 }
 
@@ -82,7 +82,7 @@ pub fn offset_hour(s: &[u8], at: usize) -> OffsetFound
     let sign = parser::sign(s, at);
     match sign {
         Signed::Got { minus, next } => {
-            let hour = parser::time_hour(s, next);
+            let hour = fields::time_hour(s, next);
             match hour {
                 Number::Got { value, next } => offset_minute(s, next, minus, value),
                 Number::Wrong => OffsetFound::Wrong,

@@ -1,17 +1,11 @@
 -- What code says of a whole, from what it says of its parts: one law for each combinator and outcome. A function's proof puts
 -- its callees' promises together by these.
-use Prim.Native.Nat.{ℕ, _≤_}
+use Prim.Native.Nat.{ℕ}
 use mathlib.Core.List.{List}
 use mathlib.Core.Bool.{Bool, true, false}
-use mathlib.Core.Option.{Option, some, none}
+use mathlib.Core.Option.{Option, none}
 use mathlib.Core.Path.{_≡_, refl, sym, ap, _∙_}
-use native.Mathlib.Omega.{arith}
 use Rattle.parser.specs.Reading.{Found, no, got, stop, Reader, seq, opt, lack, alt, verify, keep, map, mapFound, or, Says, SaysOn}
-use Rattle.parser.specs.Fields.{orZero}
-use Rattle.parser.specs.declared.Part.{Part}
-use Rattle.parser.specs.declared.Number.{Number}
-use Rattle.parser.specs.declared.Number.the-variants.{Got, Wrong, Cut}
-use Rattle.parser.specs.Read.{numberFound, numberMore, orLeftOut}
 use Rattle.parser.proofs.Places.{Fails}
 use Rattle.parser.proofs.Hopeful.{AtEnd}
 
@@ -94,20 +88,3 @@ module _ {A : Type 0} (b : Bool) (p : Reader A) (s : List ℕ) (at : ℕ) where
 pub says-seq-on : {A B : Type 0} (p : Reader A) (q : A → Reader B) (s : List ℕ) (at : ℕ) (a : A) (n : ℕ) (m : Bool) (f : Found B) (l : Bool) → Says p s at (got a n) m → SaysOn m (q a) s n f l → Says (seq p q) s at f l
 unfolding seq
 says-seq-on p q s at a n m f l h k = record { found = rw (← h .found) (k .found); more = k .more ∙ rw (h .more, ← h .found) }
-
--- ---- an optional number
-
-pub record LeftOut (p : Reader ℕ) (s : List ℕ) (at : ℕ) (r : Part) : Type 0 where
-  pub what : Option ℕ
-  pub value : r .value ≡ orZero what
-  pub says : Says (opt p) s at (got what (r .next)) (r .more)
-
-pub left-out : (p : Reader ℕ) (s : List ℕ) (at : ℕ) (x : Number) → Says p s at (numberFound x) (numberMore x) → LeftOut p s at (orLeftOut at x)
-left-out p s at (Got v n) h = record { what = some v; value = refl; says = says-opt p s at (got v n) false h }
-left-out p s at Wrong h = record { what = none; value = refl; says = says-opt p s at no false h }
-left-out p s at Cut h = record { what = none; value = refl; says = says-opt p s at no true h }
-
-pub left-out-within : (hi at : ℕ) (x : Number) → ((v n : ℕ) → numberFound x ≡ got v n → v ≤ hi) → orLeftOut at x .value ≤ hi
-left-out-within hi at (Got v n) h = h v n refl
-left-out-within hi at Wrong h = omega arith
-left-out-within hi at Cut h = omega arith

@@ -4,9 +4,9 @@ ghost use mathlib.Core.Option.{none};
 ghost use Rattle.parser.specs.Reading.{Says, SaysOn, got};
 ghost use Rattle.time.specs.Rules.{clockOf, timeOf, millisecond, secondMillisecond, minuteSecondMillisecond, timeOffset, afterHour, baseTime, time};
 ghost use Rattle.time.specs.Answer.{clockFound, clockMore, midnightAt, orLeftOut, timeFound, timeMore};
+use fields::Number;
 use offset::OffsetFound;
 use parser::Mark;
-use parser::Number;
 use runs::Run;
 use types::Time;
 use types::TimeOffset;
@@ -87,7 +87,7 @@ fn time_millisecond(s: &[u8], at: usize, minute: u32, second: u32, more: bool) -
 fn time_second_millisecond(s: &[u8], at: usize, minute: u32) -> ClockFound
     ensures { λ r. ⌜ Says (secondMillisecond minute) (now (s .entry)) at (clockFound r) (clockMore r) ⌝ }
 {
-    let second = parser::or_left_out(at, parser::after_colon(s, at, 60));
+    let second = fields::or_left_out(at, fields::after_colon(s, at, 60));
     time_millisecond(s, second.next, minute, second.value, second.more)
 }
 
@@ -95,7 +95,7 @@ fn time_second_millisecond(s: &[u8], at: usize, minute: u32) -> ClockFound
 pub fn time_minute_second_millisecond(s: &[u8], at: usize) -> ClockFound
     ensures { λ r. ⌜ Says minuteSecondMillisecond (now (s .entry)) at (clockFound r) (clockMore r) ⌝ }
 {
-    let minute = parser::after_colon(s, at, 59);
+    let minute = fields::after_colon(s, at, 59);
     match minute {
         Number::Got { value, next } => time_second_millisecond(s, next, value),
         Number::Wrong => ClockFound::Wrong,
@@ -226,7 +226,7 @@ fn time_after_hour(s: &[u8], at: usize, hour: u32) -> TimeFound
 pub fn base_time(s: &[u8], at: usize) -> TimeFound
     ensures { λ r. ⌜ Says baseTime (now (s .entry)) at (timeFound r) (timeMore r) ⌝ }
 {
-    let hour = parser::time_hour(s, at);
+    let hour = fields::time_hour(s, at);
     match hour {
         Number::Got { value, next } => time_after_hour(s, next, value),
         Number::Wrong => TimeFound::Wrong,

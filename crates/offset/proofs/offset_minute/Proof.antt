@@ -9,7 +9,8 @@ use Rattle.types.specs.Sums.{signedOffset}
 use Rattle.parser.specs.Reading.{Says, got, no, pick, opt, verify, mapFound}
 use Rattle.parser.specs.Fields.{minute, precededBy, orZero}
 use Rattle.parser.proofs.Leaves.{preceded-within}
-use Rattle.parser.proofs.Says.{says-map, says-verify, left-out, left-out-within}
+use Rattle.parser.proofs.Says.{says-map, says-verify}
+use Rattle.fields.proofs.LeftOut.{left-out, left-out-within}
 use Rattle.offset.specs.Rules.{offsetMinute, allowed}
 use Rattle.offset.specs.declared.OffsetFound.{OffsetFound}
 use Rattle.offset.specs.Answer.{offsetFound, offsetMore}

@@ -1,7 +1,8 @@
 -- The second is there or left out, and the fraction is read on from there.
 use Rattle.parser.specs.Reading.{opt}
 use Rattle.parser.specs.Fields.{second, precededBy, orZero}
-use Rattle.parser.proofs.Says.{says-seq-on, left-out}
+use Rattle.parser.proofs.Says.{says-seq-on}
+use Rattle.fields.proofs.LeftOut.{left-out}
 use Rattle.time.specs.Rules.{secondMillisecond, millisecond}
 use borrow.Author.Needs.{needs}
 use Rattle.time.proofs.time_second_millisecond.Statement.{statement}

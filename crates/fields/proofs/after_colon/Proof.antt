@@ -1,11 +1,11 @@
 -- Two digits from 00 on are open wherever the input ends, so the colon that may be missing there changes nothing.
 use native.Mathlib.Omega.{arith}
 use borrow.Author.Tests.{le-leb}
 use Rattle.parser.specs.Digits.{field, reach, lowest, highest}
 use Rattle.parser.proofs.General.{field-eager, says-past}
 use borrow.Author.Needs.{needs}
-use Rattle.parser.proofs.after_colon.Statement.{statement}
-use Rattle.parser.proofs.after_colon.Tie as tie
+use Rattle.fields.proofs.after_colon.Statement.{statement}
+use Rattle.fields.proofs.after_colon.Tie as tie
 
 past-requires : tie.Need-past-requires
 past-requires c κs = search needs

@@ -3,10 +3,10 @@ use mathlib.Core.Path.{_≡_, refl, sym, _∙_}
 use native.Mathlib.Omega.{arith}
 use lib.Dec.{leb}
 use borrow.Author.Tests.{lt-leb}
 use Rattle.parser.specs.Digits.{lowest}
 use Rattle.parser.proofs.Fields.{lowest-step, lowest-grows}
-use Rattle.parser.proofs.can_be_at_most.Statement.{statement}
-use Rattle.parser.proofs.can_be_at_most.Tie as tie
+use Rattle.fields.proofs.can_be_at_most.Statement.{statement}
+use Rattle.fields.proofs.can_be_at_most.Tie as tie
 
 abbrev Inv-loop : tie.InvT-loop
 Inv-loop hi left value low₀ n₀ low n = leb (lowest n low) hi ≡ leb (lowest left value) hi

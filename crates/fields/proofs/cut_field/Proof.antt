@@ -1,9 +1,9 @@
 -- Both tests of `reach`, in its order.
 use mathlib.Core.Path.{sym, _∙_}
 use borrow.Author.Needs.{needs}
 use Rattle.parser.specs.Digits.{reach}
-use Rattle.parser.proofs.cut_field.Statement.{statement}
-use Rattle.parser.proofs.cut_field.Tie as tie
+use Rattle.fields.proofs.cut_field.Statement.{statement}
+use Rattle.fields.proofs.cut_field.Tie as tie
 
 can-be-at-least-requires : tie.Need-can-be-at-least-requires
 can-be-at-least-requires c κs = search needs

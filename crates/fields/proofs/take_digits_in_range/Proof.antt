@@ -7,12 +7,12 @@ use native.Mathlib.Omega.{arith}
 use lib.ListN.{length, getD}
 use borrow.Author.Needs.{needs}
 use borrow.Author.Tests.{le-ltb, le-leb, lt-leb}
 use Rattle.parser.specs.Reading.{Says, got, no}
 use Rattle.parser.specs.Digits.{field, digitsFrom, digitsMore, reach}
-use Rattle.parser.specs.Read.{numberFound, numberMore, cutField}
+use Rattle.fields.specs.Read.{numberFound, numberMore, cutField}
 use Rattle.parser.proofs.Fields.{DigitAt, OtherAt, digit-at, below-digits, above-digits, digitsFrom-step, digitsMore-step, digitsFrom-other, digitsMore-other, digitsFrom-end, digitsMore-end, above, out-no, out-settled}
-use Rattle.parser.proofs.take_digits_in_range.Statement.{statement}
-use Rattle.parser.proofs.take_digits_in_range.Tie as tie
+use Rattle.fields.proofs.take_digits_in_range.Statement.{statement}
+use Rattle.fields.proofs.take_digits_in_range.Tie as tie
 
 cut-no : (t : Bool) → numberFound (cutField t) ≡ no
 cut-no true = refl

@@ -3,10 +3,10 @@ use mathlib.Core.Path.{_≡_, refl, sym, _∙_}
 use native.Mathlib.Omega.{arith}
 use lib.Dec.{leb}
 use borrow.Author.Tests.{le-leb}
 use Rattle.parser.specs.Digits.{highest}
 use Rattle.parser.proofs.Fields.{highest-step, highest-grows}
-use Rattle.parser.proofs.can_be_at_least.Statement.{statement}
-use Rattle.parser.proofs.can_be_at_least.Tie as tie
+use Rattle.fields.proofs.can_be_at_least.Statement.{statement}
+use Rattle.fields.proofs.can_be_at_least.Tie as tie
 
 abbrev Inv-loop : tie.InvT-loop
 Inv-loop lo left value high₀ n₀ high n = leb lo (highest n high) ≡ leb lo (highest left value)

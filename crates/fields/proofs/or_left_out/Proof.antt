@@ -1,7 +1,7 @@
 -- By what was found.
 use borrow.Author.Needs.{needs}
-use Rattle.parser.proofs.or_left_out.Statement.{statement}
-use Rattle.parser.proofs.or_left_out.Tie as tie
+use Rattle.fields.proofs.or_left_out.Statement.{statement}
+use Rattle.fields.proofs.or_left_out.Tie as tie
 
 enum-known-found : tie.Need-enum-known-found
 enum-known-found c = search needs
