@@ -1,18 +1,20 @@
--- What other crates may cite of lines: a split is right and the only right one; an input is split a part at a time; where `line_end` finds an
--- end, the split goes on behind it; and a program that reads in blocks sees the lines of the whole input.
-use Prim.Native.Nat.{ℕ, zero, suc, _+_, _-_, _≤_, _<_, min}
+-- What other crates may cite of lines: a split is right and the only right one; an input is split a part at a time; and whoever takes lines
+-- with `take_line` gets the lines of all bytes so far, each once and in order.
+use Prim.Native.Nat.{ℕ, zero, suc, _+_, _-_, _≤_, _<_}
 use mathlib.Core.Bool.{Bool, true, false}
-use mathlib.Core.List.{List, [], _∷_, _++_, map, flatten, append-assoc, append-nil, map-append}
-use mathlib.Core.Path.{_≡_, refl, sym, ap, ap₂, _∙_}
-use native.Mathlib.Nat.{le-refl, not-suc-le-zero}
+use mathlib.Core.List.{List, [], _∷_, _++_, append-assoc, append-nil}
+use mathlib.Core.Path.{_≡_, refl, sym, ap, _∙_}
 use native.Mathlib.Omega.{arith}
 use lib.Dec.{eqb}
-use lib.ListN.{length, take, drop, length-take, length-drop}
-use lib.Seq.{take-nil, take-take, take-append-seam, drop-drop}
+use lib.ListN.{length, take, drop, length-append, length-take, length-drop}
+use lib.Seq.{take-all, take-append-seam, drop-drop}
 use borrow.Author.Tests.{eqb-true, eqb-false, ne-eqb}
 use Rattle.lines.specs.declared.Ended.the-variants.{At, Open}
 use Rattle.lines.specs.Lines.{pick, Split, after, onto, split, lastLine, lines, joined, Free, EachFree}
-use Rattle.lines.specs.Lines.{endFrom, endAt, clip, kept, Carries, stream}
+use Rattle.lines.specs.Lines.{endFrom, endAt, clip, between, partOf, behind, isEnd, Takes, Holds, GoesOn, Moves}
+use Rattle.lines.specs.declared.Ended.{Ended}
+use Rattle.lines.specs.declared.Taken.{Taken}
+use Rattle.text.proofs.Laws.{puts-clips}
 
 -- The parts of a split, put together again, are the input.
 
@@ -152,15 +154,6 @@ module _ (s : List ℕ) (at : ℕ) where
   unfolding endAt
   split-open h = endFrom-open at (drop at s) h
 
--- What `carry` keeps is no longer than what bounds it, and is what stands at the front afterwards.
-
-pub length-kept : (from have limit : ℕ) (s : List ℕ) → length (kept from have limit s) ≡ min limit (min have (length s) - from)
-length-kept from have limit s = simp (length-take, length-drop)
-
-pub take-carried : {from have limit : ℕ} {old new : List ℕ} {r : ℕ} → Carries from have limit old new r
-    → take r new ≡ kept from have limit old
-take-carried c = rw (c .front, c .count) (take-append-seam _ _)
-
 -- A clipped rest loses nothing that a clipped line shows.
 
 take-append-take : (n : ℕ) (a b : List ℕ) → take n (take n a ++ b) ≡ take n (a ++ b)
@@ -168,52 +161,80 @@ take-append-take zero a b = refl
 take-append-take (suc n) [] b = refl
 take-append-take (suc n) (x ∷ a) b = ap (λ (l : List ℕ). x ∷ l) (take-append-take n a b)
 
-free-take : (n : ℕ) (a : List ℕ) → Free a → Free (take n a)
-free-take zero a h = tt
-free-take (suc n) [] h = tt
-free-take (suc n) (b ∷ a) h = (h .0, free-take n a (h .1))
+-- Bytes without a byte 10 go on with the rest, and a byte 10 behind them ends a line.
 
--- the same lines and the same rest, as far as their first n bytes show
-record Alike (n : ℕ) (p q : Split) : Type 0 where
-  finished : map (clip n) (p .finished) ≡ map (clip n) (q .finished)
-  rest : clip n (p .rest) ≡ clip n (q .rest)
+free-append : (a b : List ℕ) → Free a → Free b → Free (a ++ b)
+free-append [] b f g = g
+free-append (x ∷ a) b f g = (f .0, free-append a b (f .1) g)
 
-onto-clip : (n : ℕ) (a : List ℕ) (ls : List (List ℕ)) (r : List ℕ)
-    → Alike n (onto (clip n a) (record { finished = ls; rest = r })) (onto a (record { finished = ls; rest = r }))
-onto-clip n a [] r = record { finished = refl; rest = take-append-take n a r }
-onto-clip n a (l ∷ ls) r = record { finished = rw (take-append-take n a l); rest = refl }
+module _ (bytes x : List ℕ) (free : Free x) where
+  goes-on : split (bytes ++ x) ≡ record { finished = split bytes .finished; rest = split bytes .rest ++ x }
+  unfolding split
+  goes-on =
+      let line = split bytes .rest ++ x in
+      let one = split-onto line [] (free-append (split bytes .rest) x (split-free bytes .1) free) in
+      split-append bytes x ∙ rw (rw (append-nil line) at one, append-nil (split bytes .finished))
 
-split-clip : (n : ℕ) (a s : List ℕ) → Free a → Alike n (split (clip n a ++ s)) (split (a ++ s))
-split-clip n a s h =
-    rw (split-onto a s h, split-onto (clip n a) s (free-take n a h)) (onto-clip n a (split s .finished) (split s .rest))
+  line-ended : split (bytes ++ (x ++ 10 ∷ [])) ≡ record { finished = split bytes .finished ++ (split bytes .rest ++ x) ∷ []; rest = [] }
+  unfolding split
+  line-ended =
+      let line = split bytes .rest ++ x in
+      let one = split-onto line (10 ∷ []) (free-append (split bytes .rest) x (split-free bytes .1) free) in
+      split-append bytes (x ++ 10 ∷ []) ∙ rw (← append-assoc (split bytes .rest) x (10 ∷ []), one, append-nil line)
 
-lastLine-clip : (n : ℕ) (r : List ℕ) → 1 ≤ n → map (clip n) (lastLine (clip n r)) ≡ map (clip n) (lastLine r)
-lastLine-clip zero r h = absurd (not-suc-le-zero h)
-lastLine-clip (suc n) [] h = refl
-lastLine-clip (suc n) (b ∷ r) h = rw (take-take n n r (le-refl n))
+-- What `take_line` takes of a block.
 
--- However an input is cut into blocks, a program that reads them sees the lines of the input, each once and in order, as far as their first
--- `limit` bytes show.
+module _ (block : List ℕ) (from : ℕ) where
+  record Line (end : ℕ) : Type 0 where
+    free : Free (between from end block)
+    bytes : between from (end + 1) block ≡ between from end block ++ 10 ∷ []
 
-module _ (limit : ℕ) (some : 1 ≤ limit) where
-  stream-from : (r : List ℕ) → Free r → (bs : List (List ℕ))
-      → map (clip limit) (stream limit (clip limit r) bs) ≡ map (clip limit) (lines (r ++ flatten bs))
-  unfolding stream flatten
-  stream-from r h [] = unfold lines split in rw (split-onto r [] h, append-nil r) (lastLine-clip limit r some)
-  stream-from r h (b ∷ bs) =
-      let same = split-clip limit r b h in
-      let next = stream-from (split (r ++ b) .rest) (split-free (r ++ b) .1) bs in
-      rw (← append-assoc r b (flatten bs), lines-append (r ++ b) (flatten bs))
-      (simp map-append (ap₂ _++_ (same .finished) (rw (same .rest) next)))
+  line-of : (end : ℕ) → endAt block from ≡ At end → Line end
+  line-of end h =
+      let within = end-within block from end h in
+      let x = take (end - from) (drop from block) in
+      let parts = split-end block from end h in
+      let long : length (x ++ 10 ∷ []) ≡ end + 1 - from = simp (length-append, length-take, length-drop) (omega arith) in
+      let all : drop from block ≡ (x ++ 10 ∷ []) ++ drop (end + 1) block = sym (joined-split (drop from block)) ∙ rw (parts, joined-split (drop (end + 1) block)) (sym (append-assoc x (10 ∷ []) _)) in
+      record {
+        free = rw parts at (split-free (drop from block) .0) .0;
+        bytes = rw (← long) (ap (take (length (x ++ 10 ∷ []))) all ∙ take-append-seam _ _);
+      }
 
-  pub stream-lines : (bs : List (List ℕ)) → map (clip limit) (stream limit [] bs) ≡ map (clip limit) (lines (flatten bs))
-  stream-lines bs = rw take-nil at (stream-from [] tt bs)
+  rest-free : endAt block from ≡ Open → Free (drop from block)
+  rest-free h = rw (split-open block from h) at (split-free (drop from block) .1)
 
-  -- and what a program answers to each line, if it looks at no byte past them, is what it would answer to the lines of the input
-  pub stream-answers : {A : Type 0} (f : List ℕ → A) → ((l : List ℕ) → f (clip limit l) ≡ f l) → (bs : List (List ℕ))
-      → map f (stream limit [] bs) ≡ map f (lines (flatten bs))
-  stream-answers f h bs = simp map-clip at (ap (map f) (stream-lines bs))
+-- The law of lines, over all bytes so far: whoever holds the first bytes of the rest, and lets `take_line` take from a block behind these bytes, has
+-- one line more, or holds the first bytes of the new rest.
+
+module _ {limit held from : ℕ} {block old new : List ℕ} {r : Taken} (takes : Takes held block from old new r) (size : length old ≡ limit) (room : held ≤ limit) where
+  pub taken-room : (r .held ≤ limit) × (length new ≡ limit)
+  taken-room =
+      let c = puts-clips (takes .puts) (rw size room) in
+      (rw size at (c .place), rw size at (c .size))
+
+  taken-front : (bytes : List ℕ) → Holds limit bytes (take held old) → take (r .held) new ≡ clip limit (split bytes .rest ++ partOf (endAt block from) block from)
+  taken-front bytes h =
+      let c = puts-clips (takes .puts) (rw size room) in
+      rw (size, h) at (c .front) ∙ take-append-take limit (split bytes .rest) _
+
+  pub took-line : (bytes : List ℕ) → Holds limit bytes (take held old) → GoesOn (r .ended) limit bytes (bytes ++ between from (r .used) block) (take (r .held) new)
+  took-line bytes h = rw (takes .ended, takes .used) (step (endAt block from) refl (taken-front bytes h))
     where
-      map-clip : (ls : List (List ℕ)) → map f (map (clip limit) ls) ≡ map f ls
-      map-clip [] = refl
-      map-clip (l ∷ ls) = ap₂ _∷_ (h l) (map-clip ls)
+      step : (e : Ended) → endAt block from ≡ e → take (r .held) new ≡ clip limit (split bytes .rest ++ partOf e block from)
+          → GoesOn (isEnd e) limit bytes (bytes ++ between from (behind e block from) block) (take (r .held) new)
+      step (At end) e front =
+          let l = line-of block from end e in
+          let s = line-ended bytes (between from end block) (l .free) in
+          rw (l .bytes) record { line = split bytes .rest ++ between from end block; finished = ap Split.finished s; rest = ap Split.rest s; kept = front }
+      step Open e front =
+          let s = goes-on bytes (drop from block) (rest-free block from e) in
+          let all : between from (from + (length block - from)) block ≡ drop from block = take-all (from + (length block - from) - from) (drop from block) (rw (length-drop from block) (omega arith)) in
+          rw all (ap Split.finished s, rw s front)
+
+pub taken-moves : {held from : ℕ} {block old new : List ℕ} {r : Taken} → Takes held block from old new r → Moves from (length block) (r .used)
+taken-moves {held} {from} {block} {old} {new} {r} takes = rw (takes .used) (step (endAt block from) refl)
+  where
+    step : (e : Ended) → endAt block from ≡ e → Moves from (length block) (behind e block from)
+    step (At end) e = let w = end-within block from end e in record { on = omega arith; within = omega arith; some = λ h. omega arith }
+    step Open e = record { on = omega arith; within = omega arith; some = λ h. omega arith }

@@ -1,4 +1,4 @@
--- `Laws` has what other crates may cite of lines; `Ends` and `Kept` serve the proofs of `line_end` and `carry`.
+-- `Laws` and `Pinned` have what other crates may cite of lines; `Ends` serves the proof of `line_end`.
 pub mod Laws
+pub mod Pinned
 mod Ends
-mod Kept

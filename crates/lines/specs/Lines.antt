@@ -1,6 +1,6 @@
 -- The lines of an input, defined from its bytes. A byte 10 ends a line, also an empty one. What stands after the last byte 10 is a line
 -- only where it is not empty.
-use Prim.Native.Nat.{ℕ, _+_}
+use Prim.Native.Nat.{ℕ, _+_, _-_, _≤_, _<_}
 use mathlib.Core.Bool.{Bool, true, false}
 use mathlib.Core.List.{List, [], _∷_, _++_}
 use mathlib.Core.Path.{_≡_}
@@ -8,6 +8,8 @@ use lib.Dec.{eqb}
 use lib.ListN.{length, take, drop}
 use Rattle.lines.specs.declared.Ended.{Ended}
 use Rattle.lines.specs.declared.Ended.the-variants.{At, Open}
+use Rattle.lines.specs.declared.Taken.{Taken}
+use Rattle.text.specs.Text.{Puts}
 
 abbrev pub pick : {A : Type 0} → Bool → A → A → A
 pick true a b = a
@@ -74,17 +76,69 @@ endAt s at = endFrom at (drop at s)
 abbrev pub clip : ℕ → List ℕ → List ℕ
 clip limit l = take limit l
 
--- what is kept of the bytes of s from `from` up to `have`
-abbrev pub kept : ℕ → ℕ → ℕ → List ℕ → List ℕ
-kept from have limit s = clip limit (drop from (take have s))
+-- What is taken of a block from a place on: the bytes up to the first byte 10, and behind that byte; or all of them, where there is none.
 
--- r bytes are kept, they stand at the front of the new list, and behind them all is as in the old one
-pub record Carries (from have limit : ℕ) (old new : List ℕ) (r : ℕ) : Type 0 where
-  pub count : r ≡ length (kept from have limit old)
-  pub front : new ≡ kept from have limit old ++ drop r old
+-- the bytes from a place up to another
+abbrev pub between : ℕ → ℕ → List ℕ → List ℕ
+between from to s = take (to - from) (drop from s)
 
--- The lines that a program sees which reads its input in blocks: it puts each block behind what it holds, takes the finished lines, holds
--- on to the first `limit` bytes of the rest, and takes what it holds after the last block for a line where it is not empty.
-unfoldable pub stream : ℕ → List ℕ → List (List ℕ) → List (List ℕ)
-stream limit held [] = lastLine held
-stream limit held (b ∷ bs) = split (held ++ b) .finished ++ stream limit (clip limit (split (held ++ b) .rest)) bs
+abbrev pub partOf : Ended → List ℕ → ℕ → List ℕ
+partOf (At end) s from = between from end s
+partOf Open s from = drop from s
+
+abbrev pub behind : Ended → List ℕ → ℕ → ℕ
+behind (At end) s from = end + 1
+behind Open s from = from + (length s - from)
+
+abbrev pub isEnd : Ended → Bool
+isEnd (At end) = true
+isEnd Open = false
+
+-- that part is put behind what is held, as far as there is room
+pub record Takes (held : ℕ) (block : List ℕ) (from : ℕ) (old new : List ℕ) (r : Taken) : Type 0 where
+  pub puts : Puts (partOf (endAt block from) block from) old held new (r .held)
+  pub used : r .used ≡ behind (endAt block from) block from
+  pub ended : r .ended ≡ isEnd (endAt block from)
+
+-- What is taken begins at the place, ends within the block, and is at least a byte where there is one.
+pub record Moves (from length used : ℕ) : Type 0 where
+  pub on : from ≤ used
+  pub within : used ≤ from + (length - from)
+  pub some : from < length → from < used
+
+-- Of all bytes so far a program holds the first `limit` bytes of the rest.
+abbrev pub Holds : ℕ → List ℕ → List ℕ → Type 0
+Holds limit bytes held = held ≡ clip limit (split bytes .rest)
+
+-- one line more is finished, of which the first `limit` bytes are held
+pub record EndsLine (limit : ℕ) (old new held : List ℕ) : Type 0 where
+  pub line : List ℕ
+  pub finished : split new .finished ≡ split old .finished ++ line ∷ []
+  pub rest : split new .rest ≡ []
+  pub kept : held ≡ clip limit line
+
+-- The bytes `new` are the bytes `old` and some more: with the end of a line, of which the first `limit` bytes are held; or without one.
+abbrev pub GoesOn : Bool → ℕ → List ℕ → List ℕ → List ℕ → Type 0
+GoesOn true limit old new held = EndsLine limit old new held
+GoesOn false limit old new held = (split new .finished ≡ split old .finished) × Holds limit new held
+
+-- The definition of lines, pinned by two facts of any input (`proofs/Pinned.antt`): its lines, joined by byte 10, and its last byte where
+-- that is a 10, are the input again; and there are as many lines as bytes 10, and one more where the rest is not empty.
+
+abbrev pub joinedBy10 : List (List ℕ) → List ℕ
+joinedBy10 [] = []
+joinedBy10 (l ∷ []) = l
+joinedBy10 (l ∷ m ∷ ls) = l ++ 10 ∷ joinedBy10 (m ∷ ls)
+
+abbrev pub lastEnd : List ℕ → List ℕ
+lastEnd [] = []
+lastEnd (b ∷ []) = pick (eqb b 10) (10 ∷ []) []
+lastEnd (b ∷ c ∷ s) = lastEnd (c ∷ s)
+
+abbrev pub tens : List ℕ → ℕ
+tens [] = 0
+tens (b ∷ s) = pick (eqb b 10) (1 + tens s) (tens s)
+
+abbrev pub lastPiece : List ℕ → ℕ
+lastPiece [] = 0
+lastPiece (b ∷ s) = 1

@@ -1,17 +1,22 @@
 // The lines of an input that arrives in blocks.
 //
-// A program reads a block behind the bytes that it kept, takes a line at a time with `line_end`, and
-// moves what no byte 10 has ended yet to the front with `carry`. That this sees each line of the
-// input once and in order, however the input is cut into blocks, is `stream-lines` of
-// `proofs/Laws.antt`.
+// A program holds the beginning of the line that no byte 10 has ended yet in a buffer of its own. It gives each block to `take_line`, from the
+// first byte on and then from the place behind what was taken, and gets a line at a time. That this gives each line of the input once and in
+// order, however the input is cut into blocks, is `took-line` of `proofs/Laws.antt`.
 ghost use mathlib.Core.Path.{_≡_};
-ghost use Prim.Native.Nat.{min};
-ghost use Rattle.lines.specs.Lines.{endAt, Carries};
+ghost use Rattle.lines.specs.Lines.{endAt, Takes};
 
 // Where a line ends: at a byte 10, or nowhere yet.
 pub enum Ended {
     At { end: usize },
     Open,
+}
+
+// How many bytes are held of a line, and the place behind what was taken of the block. `ended`: the line is finished.
+pub struct Taken {
+    pub held: usize,
+    pub used: usize,
+    pub ended: bool,
 }
 
 // The place of the first byte 10 at or after `at`. Past the end there is none.
@@ -28,27 +33,31 @@ pub fn line_end(s: &[u8], at: usize) -> Ended
     Ended::Open
 }
 
-fn lesser(a: usize, b: usize) -> usize
-    ensures { λ r. ⌜ r ≡ min a b ⌝ }
+// Takes the bytes of a block from a place on, up to and with the first byte 10, or all of them where there is none, and puts those of the
+// line behind the `held` bytes of `kept`. What has no room there is taken and not kept.
+pub fn take_line(kept: &mut [u8], held: usize, block: &[u8], from: usize) -> Taken
+    ensures { λ r. ⌜ Takes held (now (block .entry)) from (now (kept .entry)) (now (kept .exit)) r ⌝ }
 {
-    if a < b { a } else { b }
-}
-
-// Moves `buf[from..have]`, of which it keeps the first `limit` bytes, to the front of `buf`, and
-// returns how many bytes it kept. The bytes behind them stay as they were. A `have` past the end is
-// the end, and from a `from` past `have` there is nothing to keep.
-pub fn carry(buf: &mut [u8], from: usize, have: usize, limit: usize) -> usize
-    ensures { λ r. ⌜ Carries from have limit (now (buf .entry)) (now (buf .exit)) r ⌝ }
-{
-    let end = lesser(have, buf.len());
-    if end <= from {
-        return 0;
+    let ended = line_end(block, from);
+    match ended {
+        Ended::At { end } => Taken {
+            held: text::put(kept, held, &block[from..end]),
+            used: end + 1,
+            ended: true,
+        },
+        Ended::Open => {
+            if block.len() <= from {
+                return Taken {
+                    held,
+                    used: from,
+                    ended: false,
+                };
+            }
+            Taken {
+                held: text::put(kept, held, &block[from..]),
+                used: block.len(),
+                ended: false,
+            }
+        }
     }
-    let kept = lesser(limit, end - from);
-    let mut i = 0;
-    while i < kept {
-        buf[i] = buf[from + i];
-        i += 1;
-    }
-    kept
 }

@@ -4,33 +4,30 @@
 //     K HEXBYTES TAB B COUNT W WCOUNT RECORD
 //
 // in the words of `answers`, without the verdict, which the original has not. Lines on which we differ are printed, and at the end how many
-// there were.
+// there were. Among the sample are lines that are wrong on purpose, so that a comparison that sees nothing shows.
 ghost use Prim.Native.Nat.{_≤_, _<_, _+_};
 ghost use lib.ListN.{length};
 use libc::STDIN_FILENO;
 use libc::STDOUT_FILENO;
-use lines::Ended;
 
-// The longest line of a sample is shorter.
-const LIMIT: usize = 1000;
-
-// How many lines were replayed, and on how many of them we differ.
+// How many lines were replayed, on how many of them we differ, and whether all of these could be written.
 struct Tally {
     replayed: u64,
     differ: u64,
+    written: bool,
 }
 
-// The tally after some lines, and the place behind the last of them.
+// The tally after some lines, and how many bytes are held of the next.
 struct Left {
     tally: Tally,
-    from: usize,
+    held: usize,
 }
 
-// What a block leaves: the tally, the bytes that no byte 10 has ended yet, and how many were read.
-struct Step {
+// What a turn leaves: the tally, the bytes that are held, and whether the input may go on.
+struct Turn {
     tally: Tally,
     held: usize,
-    got: usize,
+    more: bool,
 }
 
 // The place of the first tab, or the end.
@@ -129,86 +126,134 @@ fn counted(tally: Tally, line: &[u8], question: &mut [u8], out: &mut [u8]) -> Ta
 {
     let replayed = std::num::wrapping_add_u64(tally.replayed, 1);
     let differ = tally.differ;
+    let written = tally.written;
     if agreed(line, question, out) {
-        return Tally { replayed, differ };
+        return Tally {
+            replayed,
+            differ,
+            written,
+        };
     }
-    io::write_all(STDOUT_FILENO, line);
-    io::write_all(STDOUT_FILENO, b"\n");
+    let shown = io::write_all(STDOUT_FILENO, line);
+    let ended = io::write_all(STDOUT_FILENO, b"\n");
     Tally {
         replayed,
         differ: std::num::wrapping_add_u64(differ, 1),
+        written: written & shown & ended,
     }
 }
 
 // Replays the lines that a block ends.
-fn replay_lines(block: &[u8], question: &mut [u8], out: &mut [u8], tally: Tally) -> Left
-    requires { ⌜ 2 ≤ length (now question) ⌝ }
-{
-    let mut from = 0;
-    let mut tally = tally;
-    loop {
-        let ended = lines::line_end(block, from);
-        match ended {
-            Ended::At { end } => {
-                tally = counted(tally, &block[from..end], question, out);
-                from = end + 1;
-            }
-            Ended::Open => break,
-        }
-    }
-    Left { tally, from }
-}
-
-// Reads a block behind the bytes that are held, replays what it ends, and holds the rest.
 fn replay_block(
-    buf: &mut [u8],
+    block: &[u8],
+    kept: &mut [u8],
     held: usize,
     question: &mut [u8],
     out: &mut [u8],
     tally: Tally,
-) -> Step
-    requires { ⌜ held < length (now buf) ⌝ }
+) -> Left
+    requires { ⌜ held ≤ length (now kept) ⌝ }
     requires { ⌜ 2 ≤ length (now question) ⌝ }
-    ensures { λ r. ⌜ r .held ≤ 1000 ⌝ }
+    ensures { λ r. ⌜ r .held ≤ length (now (kept .exit)) ⌝ }
 {
-    let got = io::read_full(STDIN_FILENO, &mut buf[held..]);
-    let have = held + got;
-    let left = replay_lines(&buf[..have], question, out, tally);
-    let tally = left.tally;
-    let held = lines::carry(buf, left.from, have, LIMIT);
-    Step { tally, held, got }
+    let mut held = held;
+    let mut used = 0;
+    let mut tally = tally;
+    while used < block.len() {
+        let taken = lines::take_line(kept, held, block, used);
+        used = taken.used;
+        held = taken.held;
+        if taken.ended {
+            let n = held;
+            tally = counted(tally, &kept[..n], question, out);
+            held = 0;
+        }
+    }
+    Left { tally, held }
 }
 
-// Replays block after block, as many as no sample has. A line that no byte 10 ends is not replayed: the count shows it.
-fn replay_all(buf: &mut [u8], question: &mut [u8], out: &mut [u8]) -> Tally
-    requires { ⌜ 1000 < length (now buf) ⌝ }
+// Reads once, and replays what came; at the end of the input, the last line.
+fn replay_turn(
+    buf: &mut [u8],
+    kept: &mut [u8],
+    held: usize,
+    question: &mut [u8],
+    out: &mut [u8],
+    tally: Tally,
+) -> Turn
+    requires { ⌜ held ≤ length (now kept) ⌝ }
+    requires { ⌜ 2 ≤ length (now question) ⌝ }
+    ensures { λ r. ⌜ r .held ≤ length (now (kept .exit)) ⌝ }
+{
+    let got = libc::read(STDIN_FILENO, buf);
+    if got < 0 {
+        filter::tell(b"replay: standard input");
+        return Turn {
+            tally,
+            held: 0,
+            more: false,
+        };
+    }
+    let n = io::count(got, buf);
+    if n == 0 {
+        let mut tally = tally;
+        if 0 < held {
+            tally = counted(tally, &kept[..held], question, out);
+        }
+        return Turn {
+            tally,
+            held: 0,
+            more: false,
+        };
+    }
+    let left = replay_block(&buf[..n], kept, held, question, out, tally);
+    let tally = left.tally;
+    Turn {
+        tally,
+        held: left.held,
+        more: true,
+    }
+}
+
+// Turn after turn, as many as no sample has.
+fn replay_all(buf: &mut [u8], kept: &mut [u8], question: &mut [u8], out: &mut [u8]) -> Tally
     requires { ⌜ 2 ≤ length (now question) ⌝ }
 {
     let mut tally = Tally {
         replayed: 0,
         differ: 0,
+        written: true,
     };
     let mut held = 0;
-    let mut turns = u64::MAX;
-    while turns > 0 {
-        let step = replay_block(buf, held, question, out, tally);
-        tally = step.tally;
-        if step.got == 0 {
+    let mut left = u64::MAX;
+    while left > 0 {
+        let turn = replay_turn(buf, kept, held, question, out, tally);
+        tally = turn.tally;
+        if !turn.more {
             return tally;
         }
-        held = step.held;
-        turns -= 1;
+        held = turn.held;
+        left -= 1;
     }
     tally
 }
 
+// N replayed, N differ; whether it could be written.
+fn summed(tally: Tally) -> bool {
+    let replayed = io::print_decimal(STDOUT_FILENO, tally.replayed);
+    let between = io::write_all(STDOUT_FILENO, b" replayed, ");
+    let differ = io::print_decimal(STDOUT_FILENO, tally.differ);
+    let end = io::write_all(STDOUT_FILENO, b" differ\n");
+    replayed & between & differ & end & tally.written
+}
+
 fn main() {
     let mut buf = io::large_buffer();
+    let mut kept = [0u8; 1000]; // the longest line of a sample is shorter
     let mut question = [0u8; 256];
     let mut out = [0u8; 1024];
-    let tally = replay_all(&mut buf, &mut question, &mut out);
-    io::print_decimal(STDOUT_FILENO, tally.replayed);
-    io::write_all(STDOUT_FILENO, b" replayed, ");
-    io::print_decimal(STDOUT_FILENO, tally.differ);
-    io::write_all(STDOUT_FILENO, b" differ\n");
+    let tally = replay_all(&mut buf, &mut kept, &mut question, &mut out);
+    if !summed(tally) {
+        filter::tell(b"replay: standard output");
+    }
 }

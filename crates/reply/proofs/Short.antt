@@ -1,0 +1,87 @@
+-- No answer is longer than the room that is kept for one: a word has at most 22 bytes, its space among them, and an answer at most 16.
+use Prim.Native.Nat.{ℕ, zero, suc, _+_, _*_, _/_, _%_, _≤_}
+use mathlib.Core.Bool.{Bool, true, false}
+use mathlib.Core.List.{List, [], _∷_, _++_}
+use mathlib.Core.Option.{Option, some, none}
+use native.Mathlib.Omega.{arith}
+use lib.Dec.{ltb}
+use lib.ListN.{length, length-append}
+use Rattle.types.specs.declared.Date.{Date}
+use Rattle.types.specs.declared.Date.the-variants.{YMD, Week, Ordinal}
+use Rattle.parser.specs.Reading.{pick}
+use Rattle.kinds.specs.declared.answer.Letter.{Letter}
+use Rattle.kinds.specs.declared.answer.Letter.the-variants.{Names, Unknown}
+use Rattle.kinds.specs.declared.answer.Record.{Record}
+use Rattle.kinds.specs.declared.answer.Record.the-variants as record-of
+use Rattle.words.specs.declared.word.Name.{Name}
+use Rattle.words.specs.declared.word.Name.the-variants as name
+use Rattle.words.specs.declared.word.Word.{Word}
+use Rattle.words.specs.declared.word.Word.the-variants as word
+use Rattle.text.specs.Text.{decimal, decimalOf}
+use Rattle.words.specs.Words.{lettersOf, wordText, textOf}
+use Rattle.words.specs.Records.{headWords, dateWords}
+use Rattle.reply.specs.Line.{firstWords, thenWords, recordOrDash, questionOf, AnswersTo, AnswersLine}
+
+digits-short : (k n : ℕ) → length (decimalOf k n) ≤ k
+unfolding decimalOf
+digits-short zero n = omega arith
+digits-short (suc k) n = step (ltb n 10) (digits-short k (n / 10))
+  where
+    step : (t : Bool) → length (decimalOf k (n / 10)) ≤ k → length (pick t ((48 + n) ∷ []) (decimalOf k (n / 10) ++ ((48 + n % 10) ∷ []))) ≤ suc k
+    step true h = omega arith
+    step false h = simp length-append (omega arith)
+
+letters-short : (n : Name) → length (lettersOf n) ≤ 8
+unfolding lettersOf
+letters-short name.Ymd = omega arith
+letters-short name.Week = omega arith
+letters-short name.Ordinal = omega arith
+letters-short name.Time = omega arith
+letters-short name.Offset = omega arith
+letters-short name.Duration = omega arith
+letters-short name.Settled = omega arith
+letters-short name.Open = omega arith
+letters-short name.None = omega arith
+letters-short name.Dash = omega arith
+letters-short name.Unknown = omega arith
+
+word-short : (w : Word) → length (wordText w) ≤ 22
+word-short (word.Name n) = omega (arith, letters-short n)
+word-short (word.Number n) = omega (arith, digits-short 20 n)
+word-short (word.Minus n) = omega (arith, digits-short 20 n)
+word-short word.Nothing = omega arith
+
+text-short : (l : List Word) → length (textOf l) ≤ 22 * length l
+text-short [] = omega arith
+text-short (w ∷ l) = simp length-append (omega (arith, word-short w, text-short l))
+
+date-few : (d : Date) → length (dateWords d) ≤ 4
+date-few (YMD y m d) = omega arith
+date-few (Week y w d) = omega arith
+date-few (Ordinal y d) = omega arith
+
+first-few : (v : Record) → length (firstWords v) + length (thenWords v) ≤ 10
+first-few (record-of.Date v) = omega (arith, date-few v)
+first-few (record-of.Time v) = omega arith
+first-few (record-of.Offset v) = omega arith
+first-few (record-of.Stamp v) = omega (arith, date-few (v .date))
+first-few (record-of.Duration v) = omega arith
+
+record-few : (v : Option Record) → length (recordOrDash v) ≤ 10
+record-few none = omega arith
+record-few (some v) = rw length-append (first-few v)
+
+parts-short : (a b c : List ℕ) → length a ≤ 20 → length b ≤ 88 → length c ≤ 220 → length (a ++ (b ++ c)) ≤ 400
+parts-short a b c x y z = simp length-append (omega arith)
+
+answer-short : (q : Letter) (s t : List ℕ) → AnswersTo q s t → length t ≤ 400
+answer-short (Names k) s t a =
+    let head = headWords (a .begun .count) (a .verdict) (a .whole .number) (a .whole .count) in
+    let value = recordOrDash (a .begun .value) in
+    rw (a .says)
+    (parts-short (decimal (a .begun .number)) (textOf head) (textOf value) (digits-short 20 (a .begun .number)) (text-short head)
+    (omega (arith, text-short value, record-few (a .begun .value))))
+answer-short Unknown s t a = rw a (omega (arith, letters-short name.Unknown))
+
+pub line-short : (l t : List ℕ) → AnswersLine l t → length t ≤ 512
+line-short l t a = rw (a .ends) (simp length-append (omega (arith, answer-short (questionOf l) _ (a .answer) (a .answers))))

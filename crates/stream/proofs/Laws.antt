@@ -1,0 +1,164 @@
+-- What is put for all bytes so far: a line that ends adds its response, and a line that goes on adds nothing.
+use Prim.Native.Nat.{ℕ, zero, suc, _+_, _-_, _≤_, _<_, min}
+use mathlib.Core.Bool.{Bool, true, false}
+use mathlib.Core.List.{List, [], _∷_, _++_, append-assoc, append-nil}
+use mathlib.Core.Path.{_≡_, refl, sym, ap, _∙_}
+use native.Mathlib.Nat.{not-suc-le-zero}
+use native.Mathlib.Omega.{arith}
+use lib.Dec.{leb}
+use lib.ListN.{length, take, drop}
+use lib.Seq.{drop-drop, take-add, take-nil, take-all, take-length, length-take-le}
+use borrow.Author.Tests.{leb-true, leb-false}
+use Rattle.lines.specs.Lines.{split, lines, lastLine, clip, between, Holds, GoesOn}
+use Rattle.lines.specs.Lines.{Takes}
+use Rattle.lines.specs.declared.Taken.{Taken}
+use Rattle.lines.proofs.Laws.{took-line, taken-room, taken-moves}
+use Rattle.text.proofs.Laws.{puts-nothing}
+use Rattle.reply.specs.Line.{AnswersLine, Gives}
+use Rattle.reply.proofs.Asked.{long-unknown}
+use Rattle.reply.proofs.Short.{line-short}
+use Rattle.stream.specs.declared.Program.{Program}
+use Rattle.stream.specs.declared.Program.the-variants.{Answers}
+use Rattle.stream.specs.Stream.{Responds, Responses, After, Goes, One, Finishes}
+
+-- There is one program, so what answers is its response.
+pub responded : (p : Program) {l old new : List ℕ} {at next : ℕ} → Gives (AnswersLine l) old at new next → Gives (Responds p l) old at new next
+responded Answers g = g
+
+-- No response is longer than the room that is kept for one.
+pub responds-short : (p : Program) (l t : List ℕ) → Responds p l t → length t ≤ 512
+responds-short Answers l t r = line-short l t r
+
+-- A response to the first bytes of a line is a response to the line: no program takes a line that long.
+responds-clip : (p : Program) (limit : ℕ) (l t : List ℕ) → 203 ≤ limit → Responds p (clip limit l) t → Responds p l t
+responds-clip Answers limit l t h r = step (leb (length l) limit) refl
+  where
+    step : (b : Bool) → leb (length l) limit ≡ b → AnswersLine l t
+    step true e = rw (take-all limit l (leb-true (length l) limit e)) at r
+    step false e =
+        let long : limit < length l = omega (arith, leb-false (length l) limit e) in
+        let clipped : 202 < length (clip limit l) = rw (length-take-le limit l (omega arith)) (omega arith) in
+        record { answer = r .answer; answers = rw (long-unknown l (omega arith)) (rw (long-unknown (clip limit l) clipped) at (r .answers)); ends = r .ends }
+
+-- One response more behind some others.
+responses-then : (p : Program) (ls : List (List ℕ)) (l t u : List ℕ) → Responses p ls t → Responds p l u → Responses p (ls ++ l ∷ []) (t ++ u)
+responses-then p [] l t u e r = record { first = u; next = []; responds = r; behind = refl; text = rw (e, append-nil u) }
+responses-then p (k ∷ ls) l t u f r =
+    record {
+      first = f .first;
+      next = f .next ++ u;
+      responds = f .responds;
+      behind = responses-then p ls l (f .next) u (f .behind) r;
+      text = rw (f .text) (append-assoc (f .first) (f .next) u);
+    }
+
+clipped-nothing : (limit : ℕ) (l : List ℕ) → 1 ≤ limit → clip limit l ≡ [] → l ≡ []
+clipped-nothing zero l h e = absurd (not-suc-le-zero h)
+clipped-nothing (suc n) [] h e = refl
+clipped-nothing (suc n) (b ∷ l) h e = let z : _≡_ {A = ℕ} (suc (length (take n l))) 0 = ap length e in absurd (omega arith)
+
+module _ (p : Program) (limit : ℕ) where
+  -- a line that goes on
+  pub open-goes : (more old new : List ℕ) → ((bytes : List ℕ) → Holds limit bytes old → GoesOn false limit bytes (bytes ++ more) new) → Goes p limit more [] old new
+  open-goes more old new h = record {
+    goes = λ (k : 203 ≤ limit) (bytes put : List ℕ) (a : After p limit bytes put old).
+        let g = h bytes (a .holds) in
+        record { responses = rw (g .0, append-nil put) (a .responses); holds = g .1 };
+  }
+
+  -- a line that ends, and its response
+  pub ended-goes : (more old kept text : List ℕ) → ((bytes : List ℕ) → Holds limit bytes old → GoesOn true limit bytes (bytes ++ more) kept) → Responds p kept text → Goes p limit more text old []
+  ended-goes more old kept text h r = record {
+    goes = λ (k : 203 ≤ limit) (bytes put : List ℕ) (a : After p limit bytes put old).
+        let g = h bytes (a .holds) in
+        record {
+          responses = rw (g .finished) (responses-then p (split bytes .finished) (g .line) put text (a .responses) (responds-clip p limit (g .line) text k (rw (g .kept) at r)));
+          holds = rw (g .rest) (sym (take-nil limit));
+        };
+  }
+
+  -- nothing, and one behind the other
+  pub nothing-goes : (old : List ℕ) → Goes p limit [] [] old old
+  nothing-goes old = record { goes = λ (k : 203 ≤ limit) (bytes put : List ℕ) (a : After p limit bytes put old). rw (append-nil bytes, append-nil put) a }
+
+  pub goes-then : {a b t u : List ℕ} {old mid new : List ℕ} → Goes p limit a t old mid → Goes p limit b u mid new → Goes p limit (a ++ b) (t ++ u) old new
+  goes-then {a} {b} {t} {u} g h = record {
+    goes = λ (k : 203 ≤ limit) (bytes put : List ℕ) (x : After p limit bytes put _).
+        rw (append-assoc bytes a b, append-assoc put t u) at (h .goes k (bytes ++ a) (put ++ t) (g .goes k bytes put x));
+  }
+
+  -- the end: nothing is held where the rest is empty, and else the first bytes of the last line
+  pub ends-empty : (old : List ℕ) → old ≡ [] → 203 ≤ limit → (bytes put : List ℕ) → After p limit bytes put old → Responses p (lines bytes) (put ++ [])
+  unfolding lines
+  ends-empty old e k bytes put a =
+      let none = clipped-nothing limit (split bytes .rest) (omega arith) (sym (a .holds) ∙ e) in
+      rw (none, append-nil (split bytes .finished), append-nil put) (a .responses)
+
+  pub ends-last : (old text : List ℕ) → 1 ≤ length old → Responds p old text → 203 ≤ limit → (bytes put : List ℕ) → After p limit bytes put old → Responses p (lines bytes) (put ++ text)
+  unfolding lines
+  ends-last old text h r k bytes put a = step (split bytes .rest) refl
+    where
+      step : (rest : List ℕ) → split bytes .rest ≡ rest → Responses p (split bytes .finished ++ lastLine rest) (put ++ text)
+      step [] e = let none : old ≡ [] = a .holds ∙ rw (e, take-nil limit) in let z : length old ≡ 0 = ap length none in absurd (omega arith)
+      step (b ∷ rest) e = responses-then p (split bytes .finished) (b ∷ rest) put text (a .responses) (responds-clip p limit (b ∷ rest) text k (rw (← e, ← a .holds) r))
+
+-- two parts of a block, one behind the other
+pub between-then : (f u v : ℕ) (s : List ℕ) → f ≤ u → u ≤ v → between f u s ++ between u v s ≡ between f v s
+between-then f u v s h k =
+    let there : f + (u - f) ≡ u = omega arith in
+    let both : v - f ≡ (u - f) + (v - u) = omega arith in
+    sym (rw both (take-add (u - f) (v - u) (drop f s) ∙ rw (drop-drop (u - f) f s, there)))
+
+-- One line: it ends and has a response, or goes on.
+module _ (p : Program) {held from at : ℕ} {block kept new out : List ℕ} {r : Taken} (takes : Takes held block from kept new r) (room : held ≤ length kept) where
+  pub one-ended : {out′ : List ℕ} {next : ℕ} → r .ended ≡ true → Gives (Responds p (take (r .held) new)) out at out′ next
+      → One p held block from kept out at new out′ (record { held = 0; used = r .used; at = next })
+  one-ended {out′} {next} e g =
+      record {
+        text = g .text;
+        goes = ended-goes p (length kept) _ (take held kept) (take (r .held) new) (g .text) (λ (bytes : List ℕ) (h : Holds (length kept) bytes (take held kept)). rw e at (took-line takes refl room bytes h)) (g .answer);
+        puts = g .puts;
+        short = responds-short p _ (g .text) (g .answer);
+        room = omega arith;
+        size = taken-room takes refl room .1;
+        moves = taken-moves takes;
+      }
+
+  pub one-open : r .ended ≡ false → One p held block from kept out at new out (record { held = r .held; used = r .used; at = at })
+  one-open e =
+      record {
+        text = [];
+        goes = open-goes p (length kept) _ (take held kept) (take (r .held) new) (λ (bytes : List ℕ) (h : Holds (length kept) bytes (take held kept)). rw e at (took-line takes refl room bytes h));
+        puts = puts-nothing out at;
+        short = omega arith;
+        room = taken-room takes refl room .0;
+        size = taken-room takes refl room .1;
+        moves = taken-moves takes;
+      }
+
+nonzero : (n : ℕ) → (n ≡ 0 → ⊥) → 1 ≤ n
+nonzero zero e = absurd (e refl)
+nonzero (suc n) e = omega arith
+
+-- A count past the end of the buffer is its end.
+pub take-lesser : (held : ℕ) (kept : List ℕ) → take (min held (length kept)) kept ≡ take held kept
+take-lesser held kept = step (leb held (length kept)) refl
+  where
+    step : (b : Bool) → leb held (length kept) ≡ b → take (min held (length kept)) kept ≡ take held kept
+    step true e = let same : min held (length kept) ≡ held = omega (arith, leb-true held (length kept) e) in rw same
+    step false e =
+        let past : length kept < held = omega (arith, leb-false held (length kept) e) in
+        let same : min held (length kept) ≡ length kept = omega arith in
+        rw (same, take-length kept) (sym (take-all held kept (omega arith)))
+
+module _ (p : Program) {held n : ℕ} {kept out : List ℕ} (clamped : n ≡ min held (length kept)) where
+  pub finishes-empty : n ≡ 0 → Finishes p held kept out out 0
+  finishes-empty e =
+      let none : take held kept ≡ [] = sym (take-lesser held kept) ∙ rw (← clamped, e) in
+      record { text = []; responses = ends-empty p (length kept) (take held kept) none; puts = puts-nothing out 0 }
+
+  pub finishes-last : {out′ : List ℕ} {next : ℕ} → (n ≡ 0 → ⊥) → Gives (Responds p (take n kept)) out 0 out′ next → Finishes p held kept out out′ next
+  finishes-last e g =
+      let whole : take n kept ≡ take held kept = rw clamped (take-lesser held kept) in
+      let some : 1 ≤ length (take held kept) = rw (← whole, length-take-le n kept (omega arith)) (omega (arith, nonzero n e)) in
+      record { text = g .text; responses = ends-last p (length kept) (take held kept) (g .text) some (rw whole at (g .answer)); puts = g .puts }
