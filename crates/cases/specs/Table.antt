@@ -2,7 +2,7 @@
 use Prim.Native.Nat.{ℕ}
 use mathlib.Core.List.{List, [], _∷_}
 use mathlib.Core.Option.{Option, some, none}
-use lib.IntN.{pos, negℤ}
+use lib.IntN.{ℤ, pos, negℤ}
 use Rattle.types.specs.declared.Verdict.{Verdict}
 use Rattle.types.specs.declared.Verdict.the-variants.{Settled, Open}
 use Rattle.types.specs.declared.Date.the-variants.{YMD, Week, Ordinal}
@@ -21,10 +21,11 @@ pub record Row : Type 0 where
   pub told : Told Record
   pub verdict : Verdict
   pub whole : Option (Told Record)
+  pub minutes : Option ℤ
 
--- the beginning reader's answer and verdict, where the paper says nothing of the whole
+-- the beginning reader's answer and verdict, where the paper says nothing of the whole and of minutes in all
 abbrev pub begins : Kind → List ℕ → Told Record → Verdict → Row
-begins k s t v = record { kind = k; bytes = s; told = t; verdict = v; whole = none }
+begins k s t v = record { kind = k; bytes = s; told = t; verdict = v; whole = none; minutes = none }
 
 abbrev pub seconds : ℕ → Duration
 seconds n = record { years = 0; months = 0; weeks = 0; days = 0; hours = 0; minutes = 0; seconds = n }
@@ -41,11 +42,11 @@ table =
     -- -00:30
     begins kind.Offset (45 ∷ 48 ∷ 48 ∷ 58 ∷ 51 ∷ 48 ∷ []) (recorded (record-of.Offset (record { hours = pos 0; minutes = negℤ (pos 30) })) 6) Settled ∷
     -- +23:59
-    begins kind.Offset (43 ∷ 50 ∷ 51 ∷ 58 ∷ 53 ∷ 57 ∷ []) (recorded (record-of.Offset (record { hours = pos 23; minutes = pos 59 })) 6) Settled ∷
+    record { kind = kind.Offset; bytes = 43 ∷ 50 ∷ 51 ∷ 58 ∷ 53 ∷ 57 ∷ []; told = recorded (record-of.Offset (record { hours = pos 23; minutes = pos 59 })) 6; verdict = Settled; whole = none; minutes = some (pos 1439) } ∷
     -- 2015-11-02
     begins kind.Date (50 ∷ 48 ∷ 49 ∷ 53 ∷ 45 ∷ 49 ∷ 49 ∷ 45 ∷ 48 ∷ 50 ∷ []) (recorded (record-of.Date (YMD (pos 2015) 11 2)) 10) Settled ∷
     -- 2015-1102
-    record { kind = kind.Date; bytes = 50 ∷ 48 ∷ 49 ∷ 53 ∷ 45 ∷ 49 ∷ 49 ∷ 48 ∷ 50 ∷ []; told = recorded (record-of.Date (Ordinal (pos 2015) 110)) 8; verdict = Settled; whole = some (refused 3 8) } ∷
+    record { kind = kind.Date; bytes = 50 ∷ 48 ∷ 49 ∷ 53 ∷ 45 ∷ 49 ∷ 49 ∷ 48 ∷ 50 ∷ []; told = recorded (record-of.Date (Ordinal (pos 2015) 110)) 8; verdict = Settled; whole = some (refused 3 8); minutes = none } ∷
     -- 2015-11-32
     begins kind.Date (50 ∷ 48 ∷ 49 ∷ 53 ∷ 45 ∷ 49 ∷ 49 ∷ 45 ∷ 51 ∷ 50 ∷ []) (recorded (record-of.Date (YMD (pos 2015) 11 1)) 7) Settled ∷
     -- 2015-W45

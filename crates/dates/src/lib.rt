@@ -1,7 +1,7 @@
 // The two readers of a date, on the rule in crates/date: one of bytes that begin with it, one of bytes that are it as a whole.
-ghost use Rattle.parser.specs.Answer.{Begins, Ended, Rest};
+ghost use Rattle.parser.specs.Answer.{Rest};
 ghost use Rattle.date.specs.Rules.{date};
-ghost use Rattle.dates.specs.Answer.{dateTold};
+ghost use Rattle.dates.specs.Answer.{dateReads, dateParses};
 use date::DateFound;
 use types::Date;
 use types::Refusal;
@@ -21,7 +21,7 @@ pub struct DateRead {
 
 // Reads the date that the bytes begin with.
 pub fn date(s: &[u8]) -> DateRead
-    ensures { λ r. ⌜ Begins 7 date (now (s .entry)) (dateTold (r .answer)) (r .verdict) ⌝ }
+    ensures { λ r. ⌜ dateReads (now (s .entry)) r ⌝ }
 {
     let found = date::plain::date_begun(s);
     match found {
@@ -64,7 +64,7 @@ pub fn date_rest(s: &[u8]) -> &[u8]
 
 // Reads bytes that are one date from the first to the last.
 pub fn parse_date(s: &[u8]) -> DateAnswer
-    ensures { λ r. ⌜ Ended date (now (s .entry)) (dateTold r) ⌝ }
+    ensures { λ r. ⌜ dateParses (now (s .entry)) r ⌝ }
 {
     let found = date::date_at(s, 0);
     match found {

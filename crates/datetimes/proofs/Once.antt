@@ -4,12 +4,11 @@ use mathlib.Core.List.{List}
 use mathlib.Core.Path.{_≡_, sym, ap₂, _∙_}
 use Rattle.types.specs.declared.Verdict.{Verdict}
 use Rattle.types.proofs.Laws.{number-once}
-use Rattle.parser.specs.Answer.{Begins, Ended}
 use Rattle.parser.proofs.Verdict.{begins-once, recorded-once, refused-once, recorded-or-refused}
 use Rattle.datetimes.specs.declared.DateTimeAnswer.{DateTimeAnswer}
 use Rattle.datetimes.specs.declared.DateTimeAnswer.the-variants.{Record, Refused}
 use Rattle.datetimes.specs.declared.DateTimeRead.{DateTimeRead}
-use Rattle.datetimes.specs.Answer.{dateTimeTold}
+use Rattle.datetimes.specs.Answer.{dateTimeTold, dateTimeReads, dateTimeParses}
 use Rattle.datetime.specs.Rules.{dateTime}
 
 told-once : (a b : DateTimeAnswer) → dateTimeTold a ≡ dateTimeTold b → a ≡ b
@@ -18,10 +17,10 @@ told-once (Record v m) (Refused r n) e = absurd (recorded-or-refused e)
 told-once (Refused r n) (Record v m) e = absurd (recorded-or-refused (sym e))
 told-once (Refused r m) (Refused q n) e = let x = refused-once _ _ m n e in ap₂ Refused (number-once r q (x .0)) (x .1)
 
-pub read-once : (s : List ℕ) (a b : DateTimeRead) → Begins 10 dateTime s (dateTimeTold (a .answer)) (a .verdict) → Begins 10 dateTime s (dateTimeTold (b .answer)) (b .verdict) → a ≡ b
+pub read-once : (s : List ℕ) (a b : DateTimeRead) → dateTimeReads s a → dateTimeReads s b → a ≡ b
 read-once s a b h k =
     let x = begins-once 10 dateTime s _ _ _ _ h k in
     ap₂ (λ (t : DateTimeAnswer) (v : Verdict). record { answer = t; verdict = v }) (told-once (a .answer) (b .answer) (x .0)) (x .1)
 
-pub parsed-once : (s : List ℕ) (a b : DateTimeAnswer) → Ended dateTime s (dateTimeTold a) → Ended dateTime s (dateTimeTold b) → a ≡ b
+pub parsed-once : (s : List ℕ) (a b : DateTimeAnswer) → dateTimeParses s a → dateTimeParses s b → a ≡ b
 parsed-once s a b h k = told-once a b (h ∙ sym k)

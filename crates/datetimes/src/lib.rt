@@ -1,7 +1,7 @@
 // The two readers of a date-time, on the rule in crates/datetime: one of bytes that begin with it, one of bytes that are it as a whole.
-ghost use Rattle.parser.specs.Answer.{Begins, Ended, Rest};
+ghost use Rattle.parser.specs.Answer.{Rest};
 ghost use Rattle.datetime.specs.Rules.{dateTime};
-ghost use Rattle.datetimes.specs.Answer.{dateTimeTold};
+ghost use Rattle.datetimes.specs.Answer.{dateTimeReads, dateTimeParses};
 use datetime::DateTimeFound;
 use types::DateTime;
 use types::Refusal;
@@ -21,7 +21,7 @@ pub struct DateTimeRead {
 
 // Reads the date-time that the bytes begin with.
 pub fn datetime(s: &[u8]) -> DateTimeRead
-    ensures { λ r. ⌜ Begins 10 dateTime (now (s .entry)) (dateTimeTold (r .answer)) (r .verdict) ⌝ }
+    ensures { λ r. ⌜ dateTimeReads (now (s .entry)) r ⌝ }
 {
     let found = datetime::plain::datetime_begun(s);
     match found {
@@ -64,7 +64,7 @@ pub fn datetime_rest(s: &[u8]) -> &[u8]
 
 // Reads bytes that are one date-time from the first to the last.
 pub fn parse_datetime(s: &[u8]) -> DateTimeAnswer
-    ensures { λ r. ⌜ Ended dateTime (now (s .entry)) (dateTimeTold r) ⌝ }
+    ensures { λ r. ⌜ dateTimeParses (now (s .entry)) r ⌝ }
 {
     let found = datetime::datetime_at(s, 0);
     match found {

@@ -4,12 +4,11 @@ use mathlib.Core.List.{List}
 use mathlib.Core.Path.{_≡_, sym, ap₂, _∙_}
 use Rattle.types.specs.declared.Verdict.{Verdict}
 use Rattle.types.proofs.Laws.{number-once}
-use Rattle.parser.specs.Answer.{Begins, Ended}
 use Rattle.parser.proofs.Verdict.{begins-once, recorded-once, refused-once, recorded-or-refused}
 use Rattle.durations.specs.declared.DurationAnswer.{DurationAnswer}
 use Rattle.durations.specs.declared.DurationAnswer.the-variants.{Record, Refused}
 use Rattle.durations.specs.declared.DurationRead.{DurationRead}
-use Rattle.durations.specs.Answer.{durationTold}
+use Rattle.durations.specs.Answer.{durationTold, durationReads, durationParses}
 use Rattle.duration.specs.Rules.{duration}
 
 told-once : (a b : DurationAnswer) → durationTold a ≡ durationTold b → a ≡ b
@@ -21,9 +20,9 @@ told-once (Refused r m) (Refused q n) e = let x = refused-once _ _ m n e in ap�
 read-of : DurationAnswer → Verdict → DurationRead
 read-of a v = record { answer = a; verdict = v }
 
-pub read-once : (s : List ℕ) (a b : DurationRead) → Begins 3 duration s (durationTold (a .answer)) (a .verdict) → Begins 3 duration s (durationTold (b .answer)) (b .verdict) → a ≡ b
+pub read-once : (s : List ℕ) (a b : DurationRead) → durationReads s a → durationReads s b → a ≡ b
 unfolding read-of
 read-once s a b h k = let x = begins-once 3 duration s _ _ _ _ h k in ap₂ read-of (told-once (a .answer) (b .answer) (x .0)) (x .1)
 
-pub parsed-once : (s : List ℕ) (a b : DurationAnswer) → Ended duration s (durationTold a) → Ended duration s (durationTold b) → a ≡ b
+pub parsed-once : (s : List ℕ) (a b : DurationAnswer) → durationParses s a → durationParses s b → a ≡ b
 parsed-once s a b h k = told-once a b (h ∙ sym k)

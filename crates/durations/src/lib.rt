@@ -1,9 +1,9 @@
 // The two readers of a duration, on the rule in crates/duration: one of bytes that begin with it, one of bytes that are it as a whole.
 ghost use mathlib.Core.Path.{_≡_};
 ghost use Rattle.types.specs.Numbers.{numberOf};
-ghost use Rattle.parser.specs.Answer.{Begins, Ended, Rest, refused};
+ghost use Rattle.parser.specs.Answer.{Rest, refused};
 ghost use Rattle.duration.specs.Rules.{duration};
-ghost use Rattle.durations.specs.Answer.{durationTold};
+ghost use Rattle.durations.specs.Answer.{durationTold, durationReads, durationParses};
 use duration::DurationFound;
 use types::Duration;
 use types::Refusal;
@@ -28,7 +28,7 @@ pub struct DurationRead {
 //
 // The `T` may be absent. No range is asked of a part but that its number is at most 4,294,967,295.
 pub fn duration(s: &[u8]) -> DurationRead
-    ensures { λ r. ⌜ Begins 3 duration (now (s .entry)) (durationTold (r .answer)) (r .verdict) ⌝ }
+    ensures { λ r. ⌜ durationReads (now (s .entry)) r ⌝ }
 {
     let found = duration::duration_at(s, 0);
     match found {
@@ -70,7 +70,7 @@ pub fn duration_rest(s: &[u8]) -> &[u8]
 
 // Reads bytes that are one duration from the first to the last.
 pub fn parse_duration(s: &[u8]) -> DurationAnswer
-    ensures { λ r. ⌜ Ended duration (now (s .entry)) (durationTold r) ⌝ }
+    ensures { λ r. ⌜ durationParses (now (s .entry)) r ⌝ }
 {
     let found = duration::duration_at(s, 0);
     match found {

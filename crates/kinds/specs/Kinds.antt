@@ -1,10 +1,11 @@
 -- The rule of each kind, as a reader of records of any kind, and what the code's answers tell.
 use Prim.Native.Nat.{ℕ}
+use mathlib.Core.List.{List}
 use mathlib.Core.Option.{Option, some, none}
 use lib.Dec.{eqb}
 use Rattle.types.specs.Numbers.{numberOf}
 use Rattle.parser.specs.Reading.{Reader, map, pick}
-use Rattle.parser.specs.Answer.{Told, recorded, refused}
+use Rattle.parser.specs.Answer.{Told, recorded, refused, Begins, Ended}
 use Rattle.date.specs.Rules.{date}
 use Rattle.time.specs.Rules.{time}
 use Rattle.offset.specs.Rules.{offset}
@@ -16,6 +17,7 @@ use Rattle.kinds.specs.declared.answer.Record.{Record}
 use Rattle.kinds.specs.declared.answer.Record.the-variants as record-of
 use Rattle.kinds.specs.declared.answer.Answer.{Answer}
 use Rattle.kinds.specs.declared.answer.Answer.the-variants as answer
+use Rattle.kinds.specs.declared.answer.Read.{Read}
 use Rattle.kinds.specs.declared.answer.Letter.{Letter}
 use Rattle.kinds.specs.declared.answer.Letter.the-variants.{Names, Unknown}
 
@@ -45,6 +47,13 @@ letterOf c =
 abbrev pub told : Answer → Told Record
 told (answer.Record r n) = recorded r n
 told (answer.Refused why n) = refused (numberOf why) n
+
+-- what the two readers promise of their answers
+abbrev pub Reads : Kind → List ℕ → Read → Type 0
+Reads k s r = Begins (bound k) (ruleOf k) s (told (r .answer)) (r .verdict)
+
+abbrev pub Parses : Kind → List ℕ → Answer → Type 0
+Parses k s a = Ended (ruleOf k) s (told a)
 
 abbrev pub someAs : {A B : Type 0} → (A → B) → Option A → Option B
 someAs f none = none

@@ -1,13 +1,13 @@
 // One face over the five kinds: a kind as a value, and the two readers and the rest of the kind that is named. Each does what the
 // kind's own function does; who knows the kind calls that, and is served faster.
 ghost use mathlib.Core.Path.{_≡_};
-ghost use Rattle.parser.specs.Answer.{Begins, Ended, Rest};
+ghost use Rattle.parser.specs.Answer.{Rest};
 ghost use Rattle.dates.specs.Answer.{dateTold};
 ghost use Rattle.times.specs.Answer.{timeTold};
 ghost use Rattle.offsets.specs.Answer.{offsetTold};
 ghost use Rattle.datetimes.specs.Answer.{dateTimeTold};
 ghost use Rattle.durations.specs.Answer.{durationTold};
-ghost use Rattle.kinds.specs.Kinds.{ruleOf, bound, letterOf, told, toldAs};
+ghost use Rattle.kinds.specs.Kinds.{ruleOf, letterOf, told, toldAs, Reads, Parses};
 use crate::answer::Answer;
 use crate::answer::Kind;
 use crate::answer::Letter;
@@ -157,7 +157,7 @@ fn duration_read(read: DurationRead) -> Read
 
 // Reads the record of a kind that the bytes begin with.
 pub fn read(kind: Kind, s: &[u8]) -> Read
-    ensures { λ r. ⌜ Begins (bound kind) (ruleOf kind) (now (s .entry)) (told (r .answer)) (r .verdict) ⌝ }
+    ensures { λ r. ⌜ Reads kind (now (s .entry)) r ⌝ }
 {
     match kind {
         Kind::Date => date_read(dates::date(s)),
@@ -183,7 +183,7 @@ pub fn rest(kind: Kind, s: &[u8]) -> &[u8]
 
 // Reads bytes that are one record of a kind from the first to the last.
 pub fn parse(kind: Kind, s: &[u8]) -> Answer
-    ensures { λ r. ⌜ Ended (ruleOf kind) (now (s .entry)) (told r) ⌝ }
+    ensures { λ r. ⌜ Parses kind (now (s .entry)) r ⌝ }
 {
     match kind {
         Kind::Date => of_date(dates::parse_date(s)),

@@ -4,12 +4,11 @@ use mathlib.Core.List.{List}
 use mathlib.Core.Path.{_≡_, sym, ap₂, _∙_}
 use Rattle.types.specs.declared.Verdict.{Verdict}
 use Rattle.types.proofs.Laws.{number-once}
-use Rattle.parser.specs.Answer.{Begins, Ended}
 use Rattle.parser.proofs.Verdict.{begins-once, recorded-once, refused-once, recorded-or-refused}
 use Rattle.offsets.specs.declared.OffsetAnswer.{OffsetAnswer}
 use Rattle.offsets.specs.declared.OffsetAnswer.the-variants.{Record, Refused}
 use Rattle.offsets.specs.declared.OffsetRead.{OffsetRead}
-use Rattle.offsets.specs.Answer.{offsetTold}
+use Rattle.offsets.specs.Answer.{offsetTold, offsetReads, offsetParses}
 use Rattle.offset.specs.Rules.{offset}
 
 told-once : (a b : OffsetAnswer) → offsetTold a ≡ offsetTold b → a ≡ b
@@ -21,9 +20,9 @@ told-once (Refused r m) (Refused q n) e = let x = refused-once _ _ m n e in ap�
 read-of : OffsetAnswer → Verdict → OffsetRead
 read-of a v = record { answer = a; verdict = v }
 
-pub read-once : (s : List ℕ) (a b : OffsetRead) → Begins 3 offset s (offsetTold (a .answer)) (a .verdict) → Begins 3 offset s (offsetTold (b .answer)) (b .verdict) → a ≡ b
+pub read-once : (s : List ℕ) (a b : OffsetRead) → offsetReads s a → offsetReads s b → a ≡ b
 unfolding read-of
 read-once s a b h k = let x = begins-once 3 offset s _ _ _ _ h k in ap₂ read-of (told-once (a .answer) (b .answer) (x .0)) (x .1)
 
-pub parsed-once : (s : List ℕ) (a b : OffsetAnswer) → Ended offset s (offsetTold a) → Ended offset s (offsetTold b) → a ≡ b
+pub parsed-once : (s : List ℕ) (a b : OffsetAnswer) → offsetParses s a → offsetParses s b → a ≡ b
 parsed-once s a b h k = told-once a b (h ∙ sym k)

@@ -1,9 +1,9 @@
 // The two readers of an offset, on the rule in crates/offset: one of bytes that begin with it, one of bytes that are it as a whole.
 ghost use mathlib.Core.Path.{_≡_};
 ghost use Rattle.parser.specs.Reading.{got};
-ghost use Rattle.parser.specs.Answer.{Begins, Ended, Rest, refused, ended};
+ghost use Rattle.parser.specs.Answer.{Rest, refused, ended};
 ghost use Rattle.offset.specs.Rules.{offset};
-ghost use Rattle.offsets.specs.Answer.{offsetTold};
+ghost use Rattle.offsets.specs.Answer.{offsetTold, offsetReads, offsetParses};
 use offset::OffsetFound;
 use types::Offset;
 use types::Refusal;
@@ -23,7 +23,7 @@ pub struct OffsetRead {
 
 // Reads the offset that the bytes begin with.
 pub fn offset(s: &[u8]) -> OffsetRead
-    ensures { λ r. ⌜ Begins 3 offset (now (s .entry)) (offsetTold (r .answer)) (r .verdict) ⌝ }
+    ensures { λ r. ⌜ offsetReads (now (s .entry)) r ⌝ }
 {
     let found = offset::plain::offset_begun(s);
     match found {
@@ -66,7 +66,7 @@ pub fn offset_rest(s: &[u8]) -> &[u8]
 
 // Reads bytes that are one offset from the first to the last.
 pub fn parse_offset(s: &[u8]) -> OffsetAnswer
-    ensures { λ r. ⌜ Ended offset (now (s .entry)) (offsetTold r) ⌝ }
+    ensures { λ r. ⌜ offsetParses (now (s .entry)) r ⌝ }
 {
     let found = offset::offset_at(s, 0);
     match found {

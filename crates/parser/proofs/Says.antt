@@ -17,6 +17,11 @@ pub or-true : (m : Bool) → or m true ≡ true
 or-true true = refl
 or-true false = refl
 
+-- One law for every function that says what a rule reads: two answers that meet the promise tell the same, what was found and whether a
+-- byte more could matter.
+pub says-once : {A : Type 0} (p : Reader A) (s : List ℕ) (at : ℕ) (f g : Found A) (m n : Bool) → Says p s at f m → Says p s at g n → (f ≡ g) × (m ≡ n)
+says-once p s at f g m n h k = (h .found ∙ sym (k .found), h .more ∙ sym (k .more))
+
 module _ {A : Type 0} (p : Reader A) (s : List ℕ) (at : ℕ) where
   pub says-map : {B : Type 0} (g : A → B) (f : Found A) (m : Bool) → Says p s at f m → Says (map g p) s at (mapFound g f) m
   unfolding map

@@ -1,3 +1,4 @@
 pub mod Asked
 pub mod Answers
 pub mod Short
+pub mod Once

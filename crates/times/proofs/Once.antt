@@ -4,12 +4,11 @@ use mathlib.Core.List.{List}
 use mathlib.Core.Path.{_≡_, sym, ap₂, _∙_}
 use Rattle.types.specs.declared.Verdict.{Verdict}
 use Rattle.types.proofs.Laws.{number-once}
-use Rattle.parser.specs.Answer.{Begins, Ended}
 use Rattle.parser.proofs.Verdict.{begins-once, recorded-once, refused-once, recorded-or-refused}
 use Rattle.times.specs.declared.TimeAnswer.{TimeAnswer}
 use Rattle.times.specs.declared.TimeAnswer.the-variants.{Record, Refused}
 use Rattle.times.specs.declared.TimeRead.{TimeRead}
-use Rattle.times.specs.Answer.{timeTold}
+use Rattle.times.specs.Answer.{timeTold, timeReads, timeParses}
 use Rattle.time.specs.Rules.{time}
 
 told-once : (a b : TimeAnswer) → timeTold a ≡ timeTold b → a ≡ b
@@ -21,9 +20,9 @@ told-once (Refused r m) (Refused q n) e = let x = refused-once _ _ m n e in ap�
 read-of : TimeAnswer → Verdict → TimeRead
 read-of a v = record { answer = a; verdict = v }
 
-pub read-once : (s : List ℕ) (a b : TimeRead) → Begins 3 time s (timeTold (a .answer)) (a .verdict) → Begins 3 time s (timeTold (b .answer)) (b .verdict) → a ≡ b
+pub read-once : (s : List ℕ) (a b : TimeRead) → timeReads s a → timeReads s b → a ≡ b
 unfolding read-of
 read-once s a b h k = let x = begins-once 3 time s _ _ _ _ h k in ap₂ read-of (told-once (a .answer) (b .answer) (x .0)) (x .1)
 
-pub parsed-once : (s : List ℕ) (a b : TimeAnswer) → Ended time s (timeTold a) → Ended time s (timeTold b) → a ≡ b
+pub parsed-once : (s : List ℕ) (a b : TimeAnswer) → timeParses s a → timeParses s b → a ≡ b
 parsed-once s a b h k = told-once a b (h ∙ sym k)

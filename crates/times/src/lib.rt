@@ -1,9 +1,9 @@
 // The two readers of a time of day, on the rule in crates/time: one of bytes that begin with it, one of bytes that are it as a whole.
 ghost use mathlib.Core.Path.{_≡_};
 ghost use Rattle.parser.specs.Reading.{got};
-ghost use Rattle.parser.specs.Answer.{Begins, Ended, Rest, refused, ended};
+ghost use Rattle.parser.specs.Answer.{Rest, refused, ended};
 ghost use Rattle.time.specs.Rules.{time};
-ghost use Rattle.times.specs.Answer.{timeTold};
+ghost use Rattle.times.specs.Answer.{timeTold, timeReads, timeParses};
 use time::TimeFound;
 use types::Refusal;
 use types::Time;
@@ -23,7 +23,7 @@ pub struct TimeRead {
 
 // Reads the time that the bytes begin with.
 pub fn time(s: &[u8]) -> TimeRead
-    ensures { λ r. ⌜ Begins 3 time (now (s .entry)) (timeTold (r .answer)) (r .verdict) ⌝ }
+    ensures { λ r. ⌜ timeReads (now (s .entry)) r ⌝ }
 {
     let found = time::plain::time_begun(s);
     match found {
@@ -66,7 +66,7 @@ pub fn time_rest(s: &[u8]) -> &[u8]
 
 // Reads bytes that are one time from the first to the last.
 pub fn parse_time(s: &[u8]) -> TimeAnswer
-    ensures { λ r. ⌜ Ended time (now (s .entry)) (timeTold r) ⌝ }
+    ensures { λ r. ⌜ timeParses (now (s .entry)) r ⌝ }
 {
     let found = time::time_at(s, 0);
     match found {

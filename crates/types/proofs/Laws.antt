@@ -1,11 +1,11 @@
 -- What holds of every offset that the constructor makes, and of the small sums.
 use Prim.Native.Nat.{ℕ, zero, suc, _+_, _*_, _≤_}
 use mathlib.Core.Bool.{Bool, true, false}
-use mathlib.Core.Path.{_≡_, refl, sym}
+use mathlib.Core.Path.{_≡_, refl, sym, ap₂}
 use native.Mathlib.Omega.{arith}
-use borrow.Author.Tests.{leb-true, le-leb, le-ltb}
+use borrow.Author.Tests.{leb-true, le-leb, le-ltb, lt-leb}
 use lib.Dec.{leb}
-use lib.IntN.{ℤ, pos, negℤ, _+ℤ_, _*ℤ_, negℤ-+ℤ}
+use lib.IntN.{ℤ, pos, negℤ, _+ℤ_, _*ℤ_, negℤ-+ℤ, negsuc}
 use Rattle.types.specs.declared.Offset.{Offset}
 use Rattle.types.specs.declared.MadeOffset.the-variants.{Made, Outside}
 use Rattle.types.specs.declared.Refusal.{Refusal}
@@ -39,6 +39,28 @@ same-sign true zero zero = refl
 same-sign true (suc h) zero = refl
 same-sign true zero (suc m) = refl
 same-sign true (suc h) (suc m) = refl
+
+-- and only such offsets have one sign: `sameSign` is the paper's "the same sign, or are zero", no more and no less
+pub record Signed (o : Offset) : Type 0 where
+  pub minus : Bool
+  pub hour : ℕ
+  pub minute : ℕ
+  pub is : o ≡ signedOffset minus hour minute
+
+pub one-sign-only : (o : Offset) → sameSign o ≡ true → Signed o
+unfolding sameSign
+one-sign-only o e = signs (o .hours) (o .minutes) refl refl e
+  where
+    both : {h m : ℤ} → o .hours ≡ h → o .minutes ≡ m → o ≡ record { hours = h; minutes = m }
+    both a b = ap₂ (λ (h m : ℤ). record { hours = h; minutes = m }) a b
+
+    signs : (h m : ℤ) → o .hours ≡ h → o .minutes ≡ m → sameSign (record { hours = h; minutes = m }) ≡ true → Signed o
+    signs (pos h) (pos m) a b e = record { minus = false; hour = h; minute = m; is = both a b }
+    signs (pos zero) (negsuc m) a b e = record { minus = true; hour = 0; minute = suc m; is = both a b }
+    signs (pos (suc h)) (negsuc m) a b e = let f : _≡_ {A = Bool} false true = rw (le-leb 0 (suc h) (omega arith), lt-leb (suc h) 0 (omega arith)) at e in let z : _≡_ {A = ℕ} 0 1 = cc in absurd (omega arith)
+    signs (negsuc h) (pos zero) a b e = record { minus = true; hour = suc h; minute = 0; is = both a b }
+    signs (negsuc h) (pos (suc m)) a b e = let f : _≡_ {A = Bool} false true = rw (lt-leb (suc m) 0 (omega arith)) at e in let z : _≡_ {A = ℕ} 0 1 = cc in absurd (omega arith)
+    signs (negsuc h) (negsuc m) a b e = record { minus = true; hour = suc h; minute = suc m; is = both a b }
 
 pub record Proper (o : Offset) : Type 0 where
   pub one-sign : sameSign o ≡ true
