@@ -7,17 +7,12 @@ use native.Mathlib.Omega.{arith}
 use lib.ListN.{length, take}
 use lib.Seq.{take-all}
 use Rattle.lines.specs.Lines.{between}
-use Rattle.text.specs.Text.{Puts}
 use Rattle.text.proofs.Laws.{puts-clips}
 use Rattle.stream.specs.declared.Program.{Program}
 use Rattle.stream.specs.declared.Reached.{Reached}
 use Rattle.stream.specs.Stream.{Goes, Steps}
 use Rattle.stream.proofs.Laws.{between-then, nothing-goes, goes-then}
 use Rattle.filter.specs.Served.{Handed}
-
--- what is put from the front on ends within the output
-pub put-within : {t old new : List ℕ} {next : ℕ} → Puts t old 0 new next → next ≤ length new
-put-within e = let c = puts-clips e (omega arith) in omega (arith, c .place, c .size)
 
 module _ (p : Program) (held : ℕ) (block kept₀ out₀ : List ℕ) where
   pub record Along (kept out : List ℕ) (now used : ℕ) : Type 0 where
@@ -42,5 +37,7 @@ module _ (p : Program) (held : ℕ) (block kept₀ out₀ : List ℕ) where
         within = omega (arith, s .within);
       }
 
-  pub ends : {kept out : List ℕ} {now used : ℕ} → Along kept out now used → length block ≤ used → Handed p (length kept₀) block (take held kept₀) (take now kept)
-  ends {kept} {out} {now} {used} a h = let all : between 0 used block ≡ block = rw (sub-zero used) (take-all used block h) in record { text = a .text; goes = rw all at (a .goes) }
+  pub ends : {kept out : List ℕ} {now used : ℕ} → 1024 ≤ length kept₀ → Along kept out now used → length block ≤ used → Handed p (length kept₀) block (take held kept₀) (take now kept)
+  ends {kept} {out} {now} {used} room a h =
+      let all : between 0 used block ≡ block = rw (sub-zero used) (take-all used block h) in
+      record { text = a .text; goes = rw all at (a .goes) .goes room }

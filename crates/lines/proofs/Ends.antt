@@ -1,4 +1,4 @@
--- The place of the first byte 10 at or after a place, a step at a time, and what is taken up to it.
+-- The place of a byte at or after a place, a step at a time, and what is taken up to a byte 10.
 use Prim.Native.Nat.{ℕ, _+_, _-_, _≤_, _<_}
 use mathlib.Core.Bool.{true, false}
 use mathlib.Core.List.{List}
@@ -9,22 +9,22 @@ use lib.ListN.{length, getD, take, drop, length-drop, drop-of-length-le}
 use lib.Seq.{drop-cons, take-all}
 use borrow.Author.Tests.{eq-eqb, ne-eqb}
 use Rattle.lines.specs.declared.Ended.the-variants.{At, Open}
-use Rattle.lines.specs.Lines.{endAt, between, Takes}
+use Rattle.lines.specs.Lines.{placeOf, endAt, between, Takes}
 use Rattle.text.specs.Text.{Puts}
 use Rattle.text.proofs.Laws.{puts-nothing}
 
-module _ (s : List ℕ) (i : ℕ) where
-  pub end-here : i < length s → getD s i 0 ≡ 10 → endAt s i ≡ At i
-  unfolding endAt
-  end-here h e = rw (drop-cons s i 0 h, eq-eqb _ _ e)
+module _ (c : ℕ) (s : List ℕ) (i : ℕ) where
+  pub place-here : i < length s → getD s i 0 ≡ c → placeOf c s i ≡ At i
+  unfolding placeOf
+  place-here h e = rw (drop-cons s i 0 h, eq-eqb _ _ e)
 
-  pub end-later : i < length s → (getD s i 0 ≡ 10 → ⊥) → endAt s i ≡ endAt s (i + 1)
-  unfolding endAt
-  end-later h e = rw (drop-cons s i 0 h, ne-eqb _ _ e, add-one)
+  pub place-later : i < length s → (getD s i 0 ≡ c → ⊥) → placeOf c s i ≡ placeOf c s (i + 1)
+  unfolding placeOf
+  place-later h e = rw (drop-cons s i 0 h, ne-eqb _ _ e, add-one)
 
-  pub end-none : length s ≤ i → endAt s i ≡ Open
-  unfolding endAt
-  end-none h = rw (drop-of-length-le s h)
+  pub place-none : length s ≤ i → placeOf c s i ≡ Open
+  unfolding placeOf
+  place-none h = rw (drop-of-length-le s h)
 
 module _ {block : List ℕ} {from : ℕ} where
   pub takes-line : {held end h : ℕ} {old new : List ℕ} → endAt block from ≡ At end → Puts (between from end block) old held new h

@@ -11,7 +11,7 @@ use lib.Seq.{take-all, take-append-seam, drop-drop}
 use borrow.Author.Tests.{eqb-true, eqb-false, ne-eqb}
 use Rattle.lines.specs.declared.Ended.the-variants.{At, Open}
 use Rattle.lines.specs.Lines.{pick, Split, after, onto, split, lastLine, lines, joined, Free, EachFree}
-use Rattle.lines.specs.Lines.{endFrom, endAt, clip, between, partOf, behind, isEnd, Takes, Holds, GoesOn, Moves}
+use Rattle.lines.specs.Lines.{placeFrom, placeOf, endAt, clip, between, partOf, behind, isEnd, Takes, Holds, GoesOn, Moves}
 use Rattle.lines.specs.declared.Ended.{Ended}
 use Rattle.lines.specs.declared.Taken.{Taken}
 use Rattle.text.proofs.Laws.{puts-clips}
@@ -98,7 +98,7 @@ pub lines-append : (a b : List ℕ) → lines (a ++ b) ≡ split a .finished ++ 
 unfolding lines
 lines-append a b = rw (split-append a b) (append-assoc (split a .finished) _ _)
 
--- With the end that `line_end` finds, the line from `at` is the bytes up to it, and the other lines are those behind it.
+-- With the end that `place_of` finds, the line from `at` is the bytes up to it, and the other lines are those behind it.
 
 at≢open : (end : ℕ) → At end ≡ Open → ⊥
 at≢open end h = let z : _≡_ {A = ℕ} 0 1 = cc in omega arith
@@ -109,12 +109,12 @@ record Ends (at end : ℕ) (t : List ℕ) : Type 0 where
   within : size < length t
   splits : split t ≡ after (take size t) (split (drop (suc size) t))
 
-endFrom-ends : (at end : ℕ) (t : List ℕ) → endFrom at t ≡ At end → Ends at end t
+endFrom-ends : (at end : ℕ) (t : List ℕ) → placeFrom 10 at t ≡ At end → Ends at end t
 unfolding split
 endFrom-ends at end [] h = absurd (at≢open end (sym h))
 endFrom-ends at end (b ∷ t) h = step (eqb b 10) refl (endFrom-ends (at + 1) end t)
   where
-    step : (u : Bool) → eqb b 10 ≡ u → (endFrom (at + 1) t ≡ At end → Ends (at + 1) end t) → Ends at end (b ∷ t)
+    step : (u : Bool) → eqb b 10 ≡ u → (placeFrom 10 (at + 1) t ≡ At end → Ends (at + 1) end t) → Ends at end (b ∷ t)
     step true e ih =
         let g : At at ≡ At end = rw e at h in
         let p : at ≡ end = cc in
@@ -123,19 +123,38 @@ endFrom-ends at end (b ∷ t) h = step (eqb b 10) refl (endFrom-ends (at + 1) en
         let o = ih (rw e at h) in
         record { size = suc (o .size); place = omega arith; within = omega arith; splits = rw (e, o .splits) }
 
-endFrom-open : (at : ℕ) (t : List ℕ) → endFrom at t ≡ Open → split t ≡ record { finished = []; rest = t }
+endFrom-open : (at : ℕ) (t : List ℕ) → placeFrom 10 at t ≡ Open → split t ≡ record { finished = []; rest = t }
 unfolding split
 endFrom-open at [] h = refl
 endFrom-open at (b ∷ t) h = step (eqb b 10) refl (endFrom-open (at + 1) t)
   where
-    step : (u : Bool) → eqb b 10 ≡ u → (endFrom (at + 1) t ≡ Open → split t ≡ record { finished = []; rest = t })
+    step : (u : Bool) → eqb b 10 ≡ u → (placeFrom 10 (at + 1) t ≡ Open → split t ≡ record { finished = []; rest = t })
         → split (b ∷ t) ≡ record { finished = []; rest = b ∷ t }
     step true e ih = absurd (at≢open at (rw e at h))
     step false e ih = rw (e, ih (rw e at h))
 
+-- A place that is found lies at or behind where it was looked for, and within the bytes.
+placeFrom-within : (c at end : ℕ) (t : List ℕ) → placeFrom c at t ≡ At end → (at ≤ end) × (end < at + length t)
+placeFrom-within c at end [] h = absurd (at≢open end (sym h))
+placeFrom-within c at end (b ∷ t) h = step (eqb b c) refl (placeFrom-within c (at + 1) end t)
+  where
+    step : (u : Bool) → eqb b c ≡ u → (placeFrom c (at + 1) t ≡ At end → (at + 1 ≤ end) × (end < at + 1 + length t)) → (at ≤ end) × (end < at + suc (length t))
+    step true e ih =
+        let g : At at ≡ At end = rw e at h in
+        let p : at ≡ end = cc in
+        (omega arith, omega arith)
+    step false e ih = let o = ih (rw e at h) in (omega arith, omega arith)
+
+pub place-within : (c : ℕ) (s : List ℕ) (at end : ℕ) → placeOf c s at ≡ At end → (at ≤ end) × (end < length s)
+unfolding placeOf
+place-within c s at end h =
+    let o = placeFrom-within c at end (drop at s) h in
+    let l = length-drop at s in
+    (omega arith, omega arith)
+
 module _ (s : List ℕ) (at : ℕ) where
   pub end-within : (end : ℕ) → endAt s at ≡ At end → (at ≤ end) × (end < length s)
-  unfolding endAt
+  unfolding placeOf
   end-within end h =
       let o = endFrom-ends at end (drop at s) h in
       let l = length-drop at s in
@@ -143,7 +162,7 @@ module _ (s : List ℕ) (at : ℕ) where
 
   pub split-end : (end : ℕ) → endAt s at ≡ At end
       → split (drop at s) ≡ after (take (end - at) (drop at s)) (split (drop (end + 1) s))
-  unfolding endAt
+  unfolding placeOf
   split-end end h =
       let o = endFrom-ends at end (drop at s) h in
       let line : end - at ≡ o .size = omega arith in
@@ -151,7 +170,7 @@ module _ (s : List ℕ) (at : ℕ) where
       rw (line, next, ← drop-drop (suc (o .size)) at s) (o .splits)
 
   pub split-open : endAt s at ≡ Open → split (drop at s) ≡ record { finished = []; rest = drop at s }
-  unfolding endAt
+  unfolding placeOf
   split-open h = endFrom-open at (drop at s) h
 
 -- A clipped rest loses nothing that a clipped line shows.

@@ -63,14 +63,18 @@ abbrev pub EachFree : List (List ℕ) → Type 0
 EachFree [] = Unit {0}
 EachFree (l ∷ ls) = Free l × EachFree ls
 
--- the place of the first byte 10 of s, whose first byte stands at `at`
-abbrev pub endFrom : ℕ → List ℕ → Ended
-endFrom at [] = Open
-endFrom at (b ∷ s) = pick (eqb b 10) (At at) (endFrom (at + 1) s)
+-- the place of the first byte c of s, whose first byte stands at `at`
+abbrev pub placeFrom : ℕ → ℕ → List ℕ → Ended
+placeFrom c at [] = Open
+placeFrom c at (b ∷ s) = pick (eqb b c) (At at) (placeFrom c (at + 1) s)
 
--- the place of the first byte 10 of s at or after `at`
-unfoldable pub endAt : List ℕ → ℕ → Ended
-endAt s at = endFrom at (drop at s)
+-- the place of the first byte c of s at or after `at`
+unfoldable pub placeOf : ℕ → List ℕ → ℕ → Ended
+placeOf c s at = placeFrom c at (drop at s)
+
+-- a byte 10 ends a line
+abbrev pub endAt : List ℕ → ℕ → Ended
+endAt s at = placeOf 10 s at
 
 -- A program that knows a line from its first `limit` bytes keeps no more of it, so its memory has a bound and a line has none.
 abbrev pub clip : ℕ → List ℕ → List ℕ

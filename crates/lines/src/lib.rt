@@ -4,9 +4,9 @@
 // first byte on and then from the place behind what was taken, and gets a line at a time. That this gives each line of the input once and in
 // order, however the input is cut into blocks, is `took-line` of `proofs/Laws.antt`.
 ghost use mathlib.Core.Path.{_≡_};
-ghost use Rattle.lines.specs.Lines.{endAt, Takes};
+ghost use Rattle.lines.specs.Lines.{placeOf, Takes};
 
-// Where a line ends: at a byte 10, or nowhere yet.
+// Where a byte stands, such as the byte 10 that ends a line: at a place, or nowhere yet.
 pub enum Ended {
     At { end: usize },
     Open,
@@ -19,13 +19,13 @@ pub struct Taken {
     pub ended: bool,
 }
 
-// The place of the first byte 10 at or after `at`. Past the end there is none.
-pub fn line_end(s: &[u8], at: usize) -> Ended
-    ensures { λ r. ⌜ r ≡ endAt (now (s .entry)) at ⌝ }
+// The place of the first byte `byte` at or after `at`. Past the end there is none.
+pub fn place_of(s: &[u8], at: usize, byte: u8) -> Ended
+    ensures { λ r. ⌜ r ≡ placeOf byte (now (s .entry)) at ⌝ }
 {
     let mut i = at;
     while i < s.len() {
-        if s[i] == 10 {
+        if s[i] == byte {
             return Ended::At { end: i };
         }
         i += 1;
@@ -38,7 +38,7 @@ pub fn line_end(s: &[u8], at: usize) -> Ended
 pub fn take_line(kept: &mut [u8], held: usize, block: &[u8], from: usize) -> Taken
     ensures { λ r. ⌜ Takes held (now (block .entry)) from (now (kept .entry)) (now (kept .exit)) r ⌝ }
 {
-    let ended = line_end(block, from);
+    let ended = place_of(block, from, 10);
     match ended {
         Ended::At { end } => Taken {
             held: text::put(kept, held, &block[from..end]),

@@ -1,5 +1,6 @@
 -- The answer to a text: what its kind's two readers tell, put as the number, the head and the record.
 use Prim.Native.Nat.{ℕ}
+use mathlib.Core.Bool.{Bool}
 use mathlib.Core.List.{List, [], _++_, append-nil}
 use mathlib.Core.Path.{_≡_}
 use Rattle.types.specs.declared.Verdict.{Verdict}
@@ -16,12 +17,12 @@ use Rattle.reply.specs.Line.{Answered, Gives}
 use Rattle.text.proofs.Laws.{then-puts}
 use Rattle.words.proofs.Laws.{text-append}
 
-module _ (k : Kind) (s : List ℕ) (begun whole : Answer) (v : Verdict) where
+module _ (shown : Bool) (k : Kind) (s : List ℕ) (begun whole : Answer) (v : Verdict) where
   pub answered : Begins (bound k) (ruleOf k) s (told begun) v → Ended (ruleOf k) s (told whole)
       → {b n w m : ℕ} → b ≡ told begun .number → n ≡ told begun .count → w ≡ told whole .number → m ≡ told whole .count
-      → {h r : List ℕ} → h ≡ textOf (headWords n v w m) → r ≡ textOf (recordOrDash (told begun .value))
+      → {h r : List ℕ} → h ≡ textOf (headWords n shown v w m) → r ≡ textOf (recordOrDash (told begun .value))
       → {old mid end new : List ℕ} {at i j next : ℕ} → Puts (decimal b) old at mid i → Puts h mid i end j → Puts r end j new next
-      → Gives (Answered k s) old at new next
+      → Gives (Answered shown k s) old at new next
   answered begins ends {b} {n} {w} {m} eb en ew em {h} {r} eh er first second third = record {
     text = decimal b ++ (h ++ r);
     answer = record { begun = told begun; verdict = v; whole = told whole; begins = begins; ends = ends; says = rw (eb, eh, er, en, ew, em) };

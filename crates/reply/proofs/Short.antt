@@ -74,14 +74,14 @@ record-few (some v) = rw length-append (first-few v)
 parts-short : (a b c : List ℕ) → length a ≤ 20 → length b ≤ 88 → length c ≤ 220 → length (a ++ (b ++ c)) ≤ 400
 parts-short a b c x y z = simp length-append (omega arith)
 
-answer-short : (q : Letter) (s t : List ℕ) → AnswersTo q s t → length t ≤ 400
-answer-short (Names k) s t a =
-    let head = headWords (a .begun .count) (a .verdict) (a .whole .number) (a .whole .count) in
+pub answer-short : (shown : Bool) (q : Letter) (s t : List ℕ) → AnswersTo shown q s t → length t ≤ 400
+answer-short shown (Names k) s t a =
+    let head = headWords (a .begun .count) shown (a .verdict) (a .whole .number) (a .whole .count) in
     let value = recordOrDash (a .begun .value) in
     rw (a .says)
     (parts-short (decimal (a .begun .number)) (textOf head) (textOf value) (digits-short 20 (a .begun .number)) (text-short head)
     (omega (arith, text-short value, record-few (a .begun .value))))
-answer-short Unknown s t a = rw a (omega (arith, letters-short name.Unknown))
+answer-short shown Unknown s t a = rw a (omega (arith, letters-short name.Unknown))
 
 pub line-short : (l t : List ℕ) → AnswersLine l t → length t ≤ 512
-line-short l t a = rw (a .ends) (simp length-append (omega (arith, answer-short (questionOf l) _ (a .answer) (a .answers))))
+line-short l t a = rw (a .ends) (simp length-append (omega (arith, answer-short true (questionOf l) _ (a .answer) (a .answers))))

@@ -1,5 +1,6 @@
 -- The answer to a line.
 use Prim.Native.Nat.{ℕ}
+use mathlib.Core.Bool.{Bool, true}
 use mathlib.Core.List.{List, [], _∷_, _++_}
 use mathlib.Core.Option.{Option, some, none}
 use mathlib.Core.Path.{_≡_}
@@ -44,31 +45,32 @@ abbrev pub recordOrDash : Option Record → List Word
 recordOrDash (some v) = recordWords v
 recordOrDash none = Named name.Dash ∷ []
 
--- what a kind's two readers tell of the text s, in words: t, `B COUNT VERDICT W WCOUNT RECORD`. The kind's rule fixes all that they tell.
-pub record Answered (k : Kind) (s t : List ℕ) : Type 0 where
+-- what a kind's two readers tell of the text s, in words: t, `B COUNT VERDICT W WCOUNT RECORD`, the verdict where it is shown. The kind's rule
+-- fixes all that they tell.
+pub record Answered (shown : Bool) (k : Kind) (s t : List ℕ) : Type 0 where
   pub begun : Told Record
   pub verdict : Verdict
   pub whole : Told Record
   pub begins : Begins (bound k) (ruleOf k) s begun verdict
   pub ends : Ended (ruleOf k) s whole
-  pub says : t ≡ decimal (begun .number) ++ (textOf (headWords (begun .count) verdict (whole .number) (whole .count)) ++ textOf (recordOrDash (begun .value)))
+  pub says : t ≡ decimal (begun .number) ++ (textOf (headWords (begun .count) shown verdict (whole .number) (whole .count)) ++ textOf (recordOrDash (begun .value)))
 
 -- "a letter, a space, and a text of at most 200 bytes"
 unfoldable pub questionOf : List ℕ → Letter
 questionOf l = pick (leb 2 (length l)) (pick (leb (length l) 202) (pick (eqb (getD l 1 0) 32) (letterOf (getD l 0 0)) Unknown) Unknown) Unknown
 
 -- "a line of any other form prints `unknown`"
-abbrev pub AnswersTo : Letter → List ℕ → List ℕ → Type 0
-AnswersTo (Names k) s t = Answered k s t
-AnswersTo Unknown s t = t ≡ lettersOf name.Unknown
+abbrev pub AnswersTo : Bool → Letter → List ℕ → List ℕ → Type 0
+AnswersTo shown (Names k) s t = Answered shown k s t
+AnswersTo shown Unknown s t = t ≡ lettersOf name.Unknown
 
-abbrev pub Answers : List ℕ → List ℕ → Type 0
-Answers l t = AnswersTo (questionOf l) (drop 2 l) t
+abbrev pub Answers : Bool → List ℕ → List ℕ → Type 0
+Answers shown l t = AnswersTo shown (questionOf l) (drop 2 l) t
 
--- an answer, and the byte 10 that ends its line
+-- an answer with its verdict, and the byte 10 that ends its line
 pub record AnswersLine (l t : List ℕ) : Type 0 where
   pub answer : List ℕ
-  pub answers : Answers l answer
+  pub answers : Answers true l answer
   pub ends : t ≡ answer ++ 10 ∷ []
 
 -- an answer is put

@@ -52,9 +52,9 @@ fn put_record(out: &mut [u8], at: usize, value: Record) -> usize
     }
 }
 
-// B COUNT VERDICT W WCOUNT RECORD, the record being a dash where there is none
-fn answer_text(kind: Kind, s: &[u8], out: &mut [u8], at: usize) -> usize
-    ensures { λ r. ⌜ Gives (Answered kind (now (s .entry))) (now (out .entry)) at (now (out .exit)) r ⌝ }
+// B COUNT [VERDICT] W WCOUNT RECORD, the record being a dash where there is none
+fn answer_text(kind: Kind, s: &[u8], shown: bool, out: &mut [u8], at: usize) -> usize
+    ensures { λ r. ⌜ Gives (Answered shown kind (now (s .entry))) (now (out .entry)) at (now (out .exit)) r ⌝ }
 {
     let read = kinds::read(kind, s);
     let begun = read.answer;
@@ -64,7 +64,7 @@ fn answer_text(kind: Kind, s: &[u8], out: &mut [u8], at: usize) -> usize
     let next = put_words(
         out,
         next,
-        records::head(begun.count(), verdict, whole.number(), whole.count()),
+        records::head(begun.count(), shown, verdict, whole.number(), whole.count()),
     );
     match begun {
         Answer::Record { value, count: _ } => put_record(out, next, value),
@@ -88,13 +88,13 @@ fn question(line: &[u8]) -> Letter
     kinds::kind_of(line[0])
 }
 
-// The answer to a line without its end.
-fn answer(line: &[u8], out: &mut [u8], at: usize) -> usize
-    ensures { λ r. ⌜ Gives (Answers (now (line .entry))) (now (out .entry)) at (now (out .exit)) r ⌝ }
+// The answer to a line without its end. `shown`: with the verdict, which no other library has.
+pub fn answer(line: &[u8], shown: bool, out: &mut [u8], at: usize) -> usize
+    ensures { λ r. ⌜ Gives (Answers shown (now (line .entry))) (now (out .entry)) at (now (out .exit)) r ⌝ }
 {
     let asked = question(line);
     match asked {
-        Letter::Names(kind) => answer_text(kind, &line[2..], out, at),
+        Letter::Names(kind) => answer_text(kind, &line[2..], shown, out, at),
         Letter::Unknown => put_name(out, at, Name::Unknown),
     }
 }
@@ -103,6 +103,6 @@ fn answer(line: &[u8], out: &mut [u8], at: usize) -> usize
 pub fn answer_line(line: &[u8], out: &mut [u8], at: usize) -> usize
     ensures { λ r. ⌜ Gives (AnswersLine (now (line .entry))) (now (out .entry)) at (now (out .exit)) r ⌝ }
 {
-    let next = answer(line, out, at);
+    let next = answer(line, true, out, at);
     put_byte(out, next, 10)
 }

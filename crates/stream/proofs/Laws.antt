@@ -14,31 +14,23 @@ use Rattle.lines.specs.Lines.{Takes}
 use Rattle.lines.specs.declared.Taken.{Taken}
 use Rattle.lines.proofs.Laws.{took-line, taken-room, taken-moves}
 use Rattle.text.proofs.Laws.{puts-nothing}
-use Rattle.reply.specs.Line.{AnswersLine, Gives}
-use Rattle.reply.proofs.Asked.{long-unknown}
+use Rattle.reply.specs.Line.{Gives}
+use Rattle.reply.proofs.Asked.{answers-clip}
 use Rattle.reply.proofs.Short.{line-short}
+use Rattle.samples.proofs.Lines.{compares-clip, line-short as compares-short}
 use Rattle.stream.specs.declared.Program.{Program}
-use Rattle.stream.specs.declared.Program.the-variants.{Answers}
+use Rattle.stream.specs.declared.Program.the-variants.{Answers, Replay}
 use Rattle.stream.specs.Stream.{Responds, Responses, After, Goes, One, Finishes}
-
--- There is one program, so what answers is its response.
-pub responded : (p : Program) {l old new : List ℕ} {at next : ℕ} → Gives (AnswersLine l) old at new next → Gives (Responds p l) old at new next
-responded Answers g = g
 
 -- No response is longer than the room that is kept for one.
 pub responds-short : (p : Program) (l t : List ℕ) → Responds p l t → length t ≤ 512
 responds-short Answers l t r = line-short l t r
+responds-short Replay l t r = compares-short l t r
 
 -- A response to the first bytes of a line is a response to the line: no program takes a line that long.
-responds-clip : (p : Program) (limit : ℕ) (l t : List ℕ) → 203 ≤ limit → Responds p (clip limit l) t → Responds p l t
-responds-clip Answers limit l t h r = step (leb (length l) limit) refl
-  where
-    step : (b : Bool) → leb (length l) limit ≡ b → AnswersLine l t
-    step true e = rw (take-all limit l (leb-true (length l) limit e)) at r
-    step false e =
-        let long : limit < length l = omega (arith, leb-false (length l) limit e) in
-        let clipped : 202 < length (clip limit l) = rw (length-take-le limit l (omega arith)) (omega arith) in
-        record { answer = r .answer; answers = rw (long-unknown l (omega arith)) (rw (long-unknown (clip limit l) clipped) at (r .answers)); ends = r .ends }
+responds-clip : (p : Program) (limit : ℕ) (l t : List ℕ) → 1024 ≤ limit → Responds p (clip limit l) t → Responds p l t
+responds-clip Answers limit l t h r = record { answer = r .answer; answers = answers-clip true limit l (r .answer) (omega arith) (r .answers); ends = r .ends }
+responds-clip Replay limit l t h r = compares-clip limit l t h r
 
 -- One response more behind some others.
 responses-then : (p : Program) (ls : List (List ℕ)) (l t u : List ℕ) → Responses p ls t → Responds p l u → Responses p (ls ++ l ∷ []) (t ++ u)
@@ -61,7 +53,7 @@ module _ (p : Program) (limit : ℕ) where
   -- a line that goes on
   pub open-goes : (more old new : List ℕ) → ((bytes : List ℕ) → Holds limit bytes old → GoesOn false limit bytes (bytes ++ more) new) → Goes p limit more [] old new
   open-goes more old new h = record {
-    goes = λ (k : 203 ≤ limit) (bytes put : List ℕ) (a : After p limit bytes put old).
+    goes = λ (k : 1024 ≤ limit) (bytes put : List ℕ) (a : After p limit bytes put old).
         let g = h bytes (a .holds) in
         record { responses = rw (g .0, append-nil put) (a .responses); holds = g .1 };
   }
@@ -69,7 +61,7 @@ module _ (p : Program) (limit : ℕ) where
   -- a line that ends, and its response
   pub ended-goes : (more old kept text : List ℕ) → ((bytes : List ℕ) → Holds limit bytes old → GoesOn true limit bytes (bytes ++ more) kept) → Responds p kept text → Goes p limit more text old []
   ended-goes more old kept text h r = record {
-    goes = λ (k : 203 ≤ limit) (bytes put : List ℕ) (a : After p limit bytes put old).
+    goes = λ (k : 1024 ≤ limit) (bytes put : List ℕ) (a : After p limit bytes put old).
         let g = h bytes (a .holds) in
         record {
           responses = rw (g .finished) (responses-then p (split bytes .finished) (g .line) put text (a .responses) (responds-clip p limit (g .line) text k (rw (g .kept) at r)));
@@ -79,22 +71,22 @@ module _ (p : Program) (limit : ℕ) where
 
   -- nothing, and one behind the other
   pub nothing-goes : (old : List ℕ) → Goes p limit [] [] old old
-  nothing-goes old = record { goes = λ (k : 203 ≤ limit) (bytes put : List ℕ) (a : After p limit bytes put old). rw (append-nil bytes, append-nil put) a }
+  nothing-goes old = record { goes = λ (k : 1024 ≤ limit) (bytes put : List ℕ) (a : After p limit bytes put old). rw (append-nil bytes, append-nil put) a }
 
   pub goes-then : {a b t u : List ℕ} {old mid new : List ℕ} → Goes p limit a t old mid → Goes p limit b u mid new → Goes p limit (a ++ b) (t ++ u) old new
   goes-then {a} {b} {t} {u} g h = record {
-    goes = λ (k : 203 ≤ limit) (bytes put : List ℕ) (x : After p limit bytes put _).
+    goes = λ (k : 1024 ≤ limit) (bytes put : List ℕ) (x : After p limit bytes put _).
         rw (append-assoc bytes a b, append-assoc put t u) at (h .goes k (bytes ++ a) (put ++ t) (g .goes k bytes put x));
   }
 
   -- the end: nothing is held where the rest is empty, and else the first bytes of the last line
-  pub ends-empty : (old : List ℕ) → old ≡ [] → 203 ≤ limit → (bytes put : List ℕ) → After p limit bytes put old → Responses p (lines bytes) (put ++ [])
+  pub ends-empty : (old : List ℕ) → old ≡ [] → 1024 ≤ limit → (bytes put : List ℕ) → After p limit bytes put old → Responses p (lines bytes) (put ++ [])
   unfolding lines
   ends-empty old e k bytes put a =
       let none = clipped-nothing limit (split bytes .rest) (omega arith) (sym (a .holds) ∙ e) in
       rw (none, append-nil (split bytes .finished), append-nil put) (a .responses)
 
-  pub ends-last : (old text : List ℕ) → 1 ≤ length old → Responds p old text → 203 ≤ limit → (bytes put : List ℕ) → After p limit bytes put old → Responses p (lines bytes) (put ++ text)
+  pub ends-last : (old text : List ℕ) → 1 ≤ length old → Responds p old text → 1024 ≤ limit → (bytes put : List ℕ) → After p limit bytes put old → Responses p (lines bytes) (put ++ text)
   unfolding lines
   ends-last old text h r k bytes put a = step (split bytes .rest) refl
     where

@@ -7,13 +7,15 @@ use lib.ListN.{length, take}
 use Rattle.lines.specs.Lines.{split, lines, between, Holds, Moves}
 use Rattle.text.specs.Text.{Puts}
 use Rattle.reply.specs.Line.{AnswersLine}
+use Rattle.samples.specs.Samples.{ComparesLine}
 use Rattle.stream.specs.declared.Program.{Program}
-use Rattle.stream.specs.declared.Program.the-variants.{Answers}
+use Rattle.stream.specs.declared.Program.the-variants.{Answers, Replay}
 use Rattle.stream.specs.declared.Reached.{Reached}
 
 -- t is the response of a program to the line l
 abbrev pub Responds : Program → List ℕ → List ℕ → Type 0
 Responds Answers l t = AnswersLine l t
+Responds Replay l t = ComparesLine l t
 
 -- t is a response to the line l, and what others say of what stands behind it
 pub record First (p : Program) (l : List ℕ) (others : List ℕ → Type 0) (t : List ℕ) : Type 0 where
@@ -36,7 +38,7 @@ pub record After (p : Program) (limit : ℕ) (bytes put held : List ℕ) : Type 
 -- From all bytes so far to these and the bytes of a block from a place up to another: the text is what is put for them.
 -- The buffer has room for as many bytes of a line as tell a program that it is too long.
 pub record Goes (p : Program) (limit : ℕ) (more text old new : List ℕ) : Type 0 where
-  pub goes : 203 ≤ limit → (bytes put : List ℕ) → After p limit bytes put old → After p limit (bytes ++ more) (put ++ text) new
+  pub goes : 1024 ≤ limit → (bytes put : List ℕ) → After p limit bytes put old → After p limit (bytes ++ more) (put ++ text) new
 
 pub record One (p : Program) (held : ℕ) (block : List ℕ) (from : ℕ) (kept out : List ℕ) (at : ℕ) (kept′ out′ : List ℕ) (r : Reached) : Type 0 where
   pub text : List ℕ
@@ -64,5 +66,5 @@ pub record Steps (p : Program) (held : ℕ) (block : List ℕ) (from : ℕ) (kep
 -- at the end of the input the last line counts where it is not empty
 pub record Finishes (p : Program) (held : ℕ) (kept out out′ : List ℕ) (r : ℕ) : Type 0 where
   pub text : List ℕ
-  pub responses : 203 ≤ length kept → (bytes put : List ℕ) → After p (length kept) bytes put (take held kept) → Responses p (lines bytes) (put ++ text)
+  pub responses : 1024 ≤ length kept → (bytes put : List ℕ) → After p (length kept) bytes put (take held kept) → Responses p (lines bytes) (put ++ text)
   pub puts : Puts text out 0 out′ r

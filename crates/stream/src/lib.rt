@@ -11,10 +11,11 @@ ghost use Rattle.stream.specs.Stream.{Responds, One, Steps, Finishes};
 
 pub enum Program {
     Answers,
+    Replay,
 }
 
 // No program takes a line of so many bytes, so that of a longer one these are enough. A buffer for what is held has at least as many.
-pub const LIMIT: usize = 203;
+pub const LIMIT: usize = 1024;
 
 // As much as any response takes, or more.
 pub const ROOM: usize = 512;
@@ -32,6 +33,7 @@ pub fn respond(program: Program, line: &[u8], out: &mut [u8], at: usize) -> usiz
 {
     match program {
         Program::Answers => reply::answer_line(line, out, at),
+        Program::Replay => samples::compare_line(line, out, at),
     }
 }
 

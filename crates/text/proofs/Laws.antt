@@ -96,3 +96,7 @@ clips (b ∷ t) l at h = step (ltb at (length l)) refl (λ (m : List ℕ) (n : �
 
 pub puts-clips : {t old new : List ℕ} {at next : ℕ} → Puts t old at new next → at ≤ length old → Clips t old at (output new next)
 puts-clips {t} {old} {new} {at} {next} e h = rw (e .put) (clips t old at h)
+
+-- what is put from the front on ends within the output
+pub puts-within : {t old new : List ℕ} {next : ℕ} → Puts t old 0 new next → next ≤ length new
+puts-within e = let c = puts-clips e (omega arith) in omega (arith, c .place, c .size)

@@ -1,5 +1,6 @@
 -- The words of each record, and those in front of it.
 use Prim.Native.Nat.{ℕ}
+use mathlib.Core.Bool.{Bool, true, false}
 use mathlib.Core.List.{List, [], _∷_}
 use Rattle.types.specs.declared.Verdict.{Verdict}
 use Rattle.types.specs.declared.Verdict.the-variants.{Settled, Open}
@@ -14,16 +15,21 @@ use Rattle.types.specs.Sums.{minutesInAll, secondsOf}
 use Rattle.words.specs.Words.{signedWord}
 use Rattle.words.specs.declared.word.Name.the-variants as name
 use Rattle.words.specs.declared.word.Word.{Word}
-use Rattle.words.specs.declared.word.Word.the-variants.{Name as Named, Number}
+use Rattle.words.specs.declared.word.Word.the-variants.{Name as Named, Number, Nothing}
 
 -- `settled`, `open`
 abbrev pub verdictWord : Verdict → Word
 verdictWord Settled = Named name.Settled
 verdictWord Open = Named name.Open
 
+-- a word, where it is shown
+abbrev pub shownWord : Bool → Word → Word
+shownWord true w = w
+shownWord false w = Nothing
+
 -- `COUNT VERDICT W WCOUNT`
-abbrev pub headWords : ℕ → Verdict → ℕ → ℕ → List Word
-headWords n v w m = Number n ∷ verdictWord v ∷ Number w ∷ Number m ∷ []
+abbrev pub headWords : ℕ → Bool → Verdict → ℕ → ℕ → List Word
+headWords n shown v w m = Number n ∷ shownWord shown (verdictWord v) ∷ Number w ∷ Number m ∷ []
 
 -- `offset HOURS MINUTES TOTAL`
 abbrev pub offsetWords : Offset → List Word

@@ -2,7 +2,7 @@
 ghost use mathlib.Core.Path.{_≡_};
 ghost use mathlib.Core.List.{[], _∷_};
 ghost use Rattle.words.specs.Words.{textOf};
-ghost use Rattle.words.specs.Records.{verdictWord, headWords, offsetWords, timeOffsetWord, timeWords, dateWords, durationWords};
+ghost use Rattle.words.specs.Records.{verdictWord, shownWord, headWords, offsetWords, timeOffsetWord, timeWords, dateWords, durationWords};
 use crate::word::Name;
 use crate::word::Word;
 use crate::word::signed;
@@ -31,13 +31,25 @@ fn verdict_word(verdict: Verdict) -> Word
     }
 }
 
-// COUNT VERDICT W WCOUNT
-pub fn head(count: usize, verdict: Verdict, whole: u64, whole_count: usize) -> [Word; 9]
-    ensures { λ r. ⌜ textOf r ≡ textOf (headWords count verdict whole «whole_count») ⌝ }
+fn shown_word(shown: bool, word: Word) -> Word
+    ensures { λ r. ⌜ r ≡ shownWord shown word ⌝ }
+{
+    if shown { word } else { Word::Nothing }
+}
+
+// COUNT [VERDICT] W WCOUNT
+pub fn head(
+    count: usize,
+    shown: bool,
+    verdict: Verdict,
+    whole: u64,
+    whole_count: usize,
+) -> [Word; 9]
+    ensures { λ r. ⌜ textOf r ≡ textOf (headWords count shown verdict whole «whole_count») ⌝ }
 {
     four(
         Word::Number(count as u64),
-        verdict_word(verdict),
+        shown_word(shown, verdict_word(verdict)),
         Word::Number(whole),
         Word::Number(whole_count as u64),
     )

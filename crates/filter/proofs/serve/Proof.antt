@@ -5,7 +5,8 @@ use borrow.Author.Needs.{needs}
 use native.Mathlib.Omega.{arith}
 use lib.ListN.{length}
 use lib.Seq.{length-take-le}
-use Rattle.filter.proofs.Along.{put-within, Along, begins, goes-along, ends}
+use Rattle.text.proofs.Laws.{puts-within}
+use Rattle.filter.proofs.Along.{Along, begins, goes-along, ends}
 use Rattle.filter.proofs.serve.Statement.{statement}
 use Rattle.filter.proofs.serve.Tie as tie
 
@@ -23,8 +24,8 @@ serve-spec =
     μ-loop
     (λ c. begins _ _ _ _ _)
     (λ c κs. search needs)
-    (λ c. put-within (c .before .before .before .before .step .ensures .puts))
-    (λ c. sym (length-take-le _ _ (put-within (c .before .before .before .before .before .step .ensures .puts))))
+    (λ c. puts-within (c .before .before .before .before .step .ensures .puts))
+    (λ c. sym (length-take-le _ _ (puts-within (c .before .before .before .before .before .step .ensures .puts))))
     (λ c κs. search needs)
     (λ c. search needs) (λ c. search needs) (λ c. search needs)
     (λ c.
@@ -33,4 +34,4 @@ serve-spec =
     omega (arith, c .before .before .before .before .before .before .before .step .ensures .more room (c .before .before .before .before .before .before .before .before .before .before .loop-test .taken), c .before .before .before .before .before .before .before .before .before .before .loop-test .taken))
     (λ c. goes-along _ _ _ _ _ (c .before .before .before .before .before .before .before .before .before .before .before .loop .inv) (c .before .before .before .before .before .before .before .before .before .before .loop-test .taken) (c .before .before .before .before .before .before .before .step .ensures))
     (λ c. search needs) (λ c. search needs)
-    (λ c. ends _ _ _ _ _ (c .before .loop .inv) (omega (arith, c .loop-test .left))))
+    (λ c. ends _ _ _ _ _ (c .before .before .before .before .before .pre .0) (c .before .loop .inv) (omega (arith, c .loop-test .left))))

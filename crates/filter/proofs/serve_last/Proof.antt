@@ -3,7 +3,7 @@ use mathlib.Core.Path.{sym}
 use borrow.Author.Needs.{needs}
 use native.Mathlib.Omega.{arith}
 use lib.Seq.{length-take-le}
-use Rattle.filter.proofs.Along.{put-within}
+use Rattle.text.proofs.Laws.{puts-within}
 use Rattle.filter.proofs.serve_last.Statement.{statement}
 use Rattle.filter.proofs.serve_last.Tie as tie
 
@@ -12,6 +12,6 @@ serve-last-spec =
     tie.close
     (tie.spec
     (λ c κs. search needs)
-    (λ c. put-within (c .before .before .finish .ensures .puts))
-    (λ c. sym (length-take-le _ _ (put-within (c .before .before .before .finish .ensures .puts))))
+    (λ c. puts-within (c .before .before .finish .ensures .puts))
+    (λ c. sym (length-take-le _ _ (puts-within (c .before .before .before .finish .ensures .puts))))
     (λ c κs. search needs) (λ c. search needs) (λ c. search needs))

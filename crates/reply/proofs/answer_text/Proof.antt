@@ -14,7 +14,7 @@ returns c =
     let head = c .before .before .before .before .before .before .before .before .before in
     let number = head .before .before .before .before .before .before .before .before in
     let read = number .before .before .before .before .read in
-    answered _ _ (read .result .answer) (number .before .before .before .parse .result) (read .result .verdict) (read .ensures) (number .before .before .before .parse .ensures)
+    answered _ _ _ (read .result .answer) (number .before .before .before .parse .result) (read .result .verdict) (read .ensures) (number .before .before .before .parse .ensures)
     (number .before .number .ensures) (head .before .before .before .before .count .ensures) (head .before .before .before .number2 .ensures) (head .before .before .count2 .ensures)
     (head .before .head .ensures) (rw (c .before .before .before .before .before .begun .given .1)) (number .put-decimal .ensures) (head .put-words .ensures) (c .before .before .put-record .ensures)
 
@@ -23,7 +23,7 @@ returns-2 c =
     let head = c .before .before .before .before .before .before .before .before in
     let number = head .before .before .before .before .before .before .before .before in
     let read = number .before .before .before .before .read in
-    answered _ _ (read .result .answer) (number .before .before .before .parse .result) (read .result .verdict) (read .ensures) (number .before .before .before .parse .ensures)
+    answered _ _ _ (read .result .answer) (number .before .before .before .parse .result) (read .result .verdict) (read .ensures) (number .before .before .before .parse .ensures)
     (number .before .number .ensures) (head .before .before .before .before .count .ensures) (head .before .before .before .number2 .ensures) (head .before .before .count2 .ensures)
     (head .before .head .ensures) (rw (c .before .before .before .before .enum-told .given .1) (sym (append-nil (wordText (Named Dash))))) (number .put-decimal .ensures) (head .put-words .ensures) (c .before .before .put-word .ensures)
 

@@ -7,5 +7,5 @@ pub head-spec : {M : Type 1} → statement M
 head-spec =
     tie.close
     (tie.spec
-    (λ c κs. search needs) (λ c κs. search needs)
-    (λ c. rw (c .before .verdict-word .ensures) at (c .four .ensures)))
+    (λ c κs. search needs) (λ c κs. search needs) (λ c κs. search needs)
+    (λ c. rw (c .before .shown-word .ensures, c .before .before .verdict-word .ensures) at (c .four .ensures)))
