@@ -144,8 +144,11 @@ pub fn put_time(slots: &mut [i64], count: usize, verdict: i64, t: Time) -> u32
     if MOST < count {
         return TOO_FEW;
     }
+    let o = t.offset;
+    let shift = shift_of(o);
     put_head(slots, count, verdict);
-    put_time_from(slots, 2, t);
+    put_four(slots, 2, t.hour, t.minute, t.second, t.nanosecond);
+    put_three(slots, 6, shift.given, shift.hours, shift.minutes);
     0
 }
 

@@ -8,21 +8,6 @@ use borrow.Author.Needs.{needs}
 use Rattle.dates.proofs.date.Statement.{statement}
 use Rattle.dates.proofs.date.Tie as tie
 
-date-begun-requires : tie.Need-date-begun-requires
-date-begun-requires c κs = search needs
-
-enum-known-found : tie.Need-enum-known-found
-enum-known-found c = search needs
-
-verdict-on-requires : tie.Need-verdict-on-requires
-verdict-on-requires c κs = search needs
-
-enum-told : tie.Need-enum-told
-enum-told c = search needs
-
-enum-told-2 : tie.Need-enum-told-2
-enum-told-2 c = search needs
-
 returns : tie.Need-returns
 returns c =
     let a = c .before .before .before .before .before .before .args in
@@ -42,11 +27,7 @@ pub date-spec : {M : Type 1} → statement M
 date-spec =
     tie.close
     (tie.spec
-    date-begun-requires
-    enum-known-found
-    verdict-on-requires
-    enum-told
-    enum-told-2
+    (λ c κs. search needs) (λ c. search needs) (λ c κs. search needs) (λ c. search needs) (λ c. search needs)
     returns
     returns-2
     returns-3)

@@ -4,33 +4,6 @@ use borrow.Author.Needs.{needs}
 use Rattle.durations.proofs.duration.Statement.{statement}
 use Rattle.durations.proofs.duration.Tie as tie
 
-duration-at-requires : tie.Need-duration-at-requires
-duration-at-requires c κs = search needs
-
-enum-known-found : tie.Need-enum-known-found
-enum-known-found c = search needs
-
-verdict-on-requires : tie.Need-verdict-on-requires
-verdict-on-requires c κs = search needs
-
-enum-told : tie.Need-enum-told
-enum-told c = search needs
-
-refused-requires : tie.Need-refused-requires
-refused-requires c κs = search needs
-
-enum-told-2 : tie.Need-enum-told-2
-enum-told-2 c = search needs
-
-refused-requires-2 : tie.Need-refused-requires-2
-refused-requires-2 c κs = search needs
-
-enum-told-3 : tie.Need-enum-told-3
-enum-told-3 c = search needs
-
-refused-requires-3 : tie.Need-refused-requires-3
-refused-requires-3 c κs = search needs
-
 returns : tie.Need-returns
 returns c = rw (c .verdict-on .ensures) (duration-begins (c .before .before .before .before .before .before .args .s .now) _ _ (rw (c .before .before .found .given .1) at (c .before .before .before .before .duration-at .ensures)))
 
@@ -47,15 +20,7 @@ pub duration-spec : {M : Type 1} → statement M
 duration-spec =
     tie.close
     (tie.spec
-    duration-at-requires
-    enum-known-found
-    verdict-on-requires
-    enum-told
-    refused-requires
-    enum-told-2
-    refused-requires-2
-    enum-told-3
-    refused-requires-3
+    (λ c κs. search needs) (λ c. search needs) (λ c κs. search needs) (λ c. search needs) (λ c κs. search needs) (λ c. search needs) (λ c κs. search needs) (λ c. search needs) (λ c κs. search needs)
     returns
     returns-2
     returns-3

@@ -3,24 +3,6 @@ use borrow.Author.Needs.{needs}
 use Rattle.durations.proofs.duration_rest.Statement.{statement}
 use Rattle.durations.proofs.duration_rest.Tie as tie
 
-duration-at-requires : tie.Need-duration-at-requires
-duration-at-requires c κs = search needs
-
-enum-known-found : tie.Need-enum-known-found
-enum-known-found c = search needs
-
-leftover-requires : tie.Need-leftover-requires
-leftover-requires c κs = search needs
-
-enum-told : tie.Need-enum-told
-enum-told c = search needs
-
-enum-told-2 : tie.Need-enum-told-2
-enum-told-2 c = search needs
-
-enum-told-3 : tie.Need-enum-told-3
-enum-told-3 c = search needs
-
 returns : tie.Need-returns
 returns c = rw (← (rw (c .before .before .found .given .1) at (c .before .before .before .before .duration-at .ensures)) .found) (c .leftover .ensures)
 
@@ -37,12 +19,7 @@ pub duration-rest-spec : {M : Type 1} → statement M
 duration-rest-spec =
     tie.close
     (tie.spec
-    duration-at-requires
-    enum-known-found
-    leftover-requires
-    enum-told
-    enum-told-2
-    enum-told-3
+    (λ c κs. search needs) (λ c. search needs) (λ c κs. search needs) (λ c. search needs) (λ c. search needs) (λ c. search needs)
     returns
     returns-2
     returns-3

@@ -4,23 +4,8 @@ use borrow.Author.Needs.{needs}
 use Rattle.durations.proofs.parse_duration.Statement.{statement}
 use Rattle.durations.proofs.parse_duration.Tie as tie
 
-duration-at-requires : tie.Need-duration-at-requires
-duration-at-requires c κs = search needs
-
-enum-known-found : tie.Need-enum-known-found
-enum-known-found c = search needs
-
 returns : tie.Need-returns
 returns c = rw (← (rw (c .before .before .found .given .1) at (c .before .before .before .before .duration-at .ensures)) .found, lt-ltb _ _ (c .if1 .taken))
-
-enum-told : tie.Need-enum-told
-enum-told c = search needs
-
-enum-told-2 : tie.Need-enum-told-2
-enum-told-2 c = search needs
-
-enum-told-3 : tie.Need-enum-told-3
-enum-told-3 c = search needs
 
 returns-2 : tie.Need-returns-2
 returns-2 c = rw (← (rw (c .before .before .found .given .1) at (c .before .before .before .before .duration-at .ensures)) .found, le-ltb _ _ (c .if1 .left))
@@ -38,12 +23,9 @@ pub parse-duration-spec : {M : Type 1} → statement M
 parse-duration-spec =
     tie.close
     (tie.spec
-    duration-at-requires
-    enum-known-found
+    (λ c κs. search needs) (λ c. search needs)
     returns
-    enum-told
-    enum-told-2
-    enum-told-3
+    (λ c. search needs) (λ c. search needs) (λ c. search needs)
     returns-2
     returns-3
     returns-4

@@ -6,21 +6,6 @@ use borrow.Author.Needs.{needs}
 use Rattle.times.proofs.parse_time.Statement.{statement}
 use Rattle.times.proofs.parse_time.Tie as tie
 
-time-at-requires : tie.Need-time-at-requires
-time-at-requires c κs = search needs
-
-enum-known-found : tie.Need-enum-known-found
-enum-known-found c = search needs
-
-whole-time-requires : tie.Need-whole-time-requires
-whole-time-requires c κs = search needs
-
-enum-told : tie.Need-enum-told
-enum-told c = search needs
-
-enum-told-2 : tie.Need-enum-told-2
-enum-told-2 c = search needs
-
 returns : tie.Need-returns
 returns c =
     let a = c .before .before .before .before .before .before .args in
@@ -40,11 +25,7 @@ pub parse-time-spec : {M : Type 1} → statement M
 parse-time-spec =
     tie.close
     (tie.spec
-    time-at-requires
-    enum-known-found
-    whole-time-requires
-    enum-told
-    enum-told-2
+    (λ c κs. search needs) (λ c. search needs) (λ c κs. search needs) (λ c. search needs) (λ c. search needs)
     returns
     returns-2
     returns-3)
