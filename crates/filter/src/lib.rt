@@ -13,7 +13,7 @@ use stream::Program;
 const STATUS_FILENO: i32 = 3;
 
 // What a block leaves: how many bytes are held; or a write that failed.
-pub enum Served {
+enum Served {
     All { held: usize },
     Failed,
 }

@@ -10,7 +10,7 @@ use lib.ListN.{length, take, drop, length-append, length-take, length-drop}
 use lib.Seq.{take-all, take-append-seam, drop-drop}
 use borrow.Author.Tests.{eqb-true, eqb-false, ne-eqb}
 use Rattle.lines.specs.declared.Ended.the-variants.{At, Open}
-use Rattle.lines.specs.Lines.{pick, Split, after, onto, split, lastLine, lines, joined, Free, EachFree}
+use Rattle.lines.specs.Lines.{pick, Split, after, onto, split, lines, joined, Free, EachFree}
 use Rattle.lines.specs.Lines.{placeFrom, placeOf, endAt, clip, between, partOf, behind, isEnd, Takes, Holds, GoesOn, Moves}
 use Rattle.lines.specs.declared.Ended.{Ended}
 use Rattle.lines.specs.declared.Taken.{Taken}

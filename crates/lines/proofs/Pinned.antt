@@ -8,7 +8,7 @@ use native.Mathlib.Omega.{arith}
 use lib.Dec.{eqb}
 use lib.ListN.{length, length-append}
 use borrow.Author.Tests.{ne-eqb}
-use Rattle.lines.specs.Lines.{pick, Split, after, onto, split, lastLine, lines, joined, Free, joinedBy10, lastEnd, tens, lastPiece}
+use Rattle.lines.specs.Lines.{pick, after, onto, split, lastLine, lines, joined, Free, joinedBy10, lastEnd, tens, lastPiece}
 use Rattle.lines.proofs.Laws.{joined-split, split-free}
 
 -- the last byte of a line that is not empty is no byte 10

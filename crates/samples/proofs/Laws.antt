@@ -1,15 +1,15 @@
 -- The bytes that stand in hexadecimal, a pair at a time; the question of a line; and what a buffer of fixed size makes of both.
-use Prim.Native.Nat.{ℕ, zero, suc, _+_, _*_, _-_, _≤_, _<_}
+use Prim.Native.Nat.{ℕ, suc, _+_, _*_, _-_, _≤_, _<_}
 use mathlib.Core.List.{List, [], _∷_, _++_, append-nil}
-use mathlib.Core.Bool.{Bool, true, false}
+use mathlib.Core.Bool.{false}
 use mathlib.Core.Path.{_≡_, refl, sym, ap, _∙_}
 use native.Mathlib.Numerals.{add-one}
 use native.Mathlib.Omega.{arith}
 use lib.ListN.{length, take, drop, getD, length-drop, length-take}
 use lib.Seq.{drop-cons, take-take, take-all, take-at}
 use Rattle.lines.specs.Lines.{between}
-use Rattle.text.specs.Text.{Output, output, puts, putsOne, Puts}
-use Rattle.text.proofs.Laws.{then-puts, puts-fits, puts-clips}
+use Rattle.text.specs.Text.{output, puts, Puts}
+use Rattle.text.proofs.Laws.{puts-fits, puts-clips}
 use Rattle.reply.specs.Line.{Answers, Gives, questionOf}
 use Rattle.reply.proofs.Asked.{answers-clip}
 use Rattle.reply.proofs.Short.{answer-short}

@@ -1,14 +1,14 @@
 -- No two texts are the response to one line of a sample.
 use Prim.Native.Nat.{ℕ}
-use mathlib.Core.List.{List, _++_}
+use mathlib.Core.List.{List}
 use mathlib.Core.Bool.{false}
 use mathlib.Core.Logic.{inl, inr}
-use mathlib.Core.Path.{_≡_, sym, ap, _∙_}
+use mathlib.Core.Path.{_≡_, sym, _∙_}
 use Rattle.lines.specs.declared.Ended.{Ended}
 use Rattle.lines.specs.declared.Ended.the-variants.{At, Open}
 use Rattle.reply.specs.Line.{questionOf}
 use Rattle.reply.proofs.Once.{answers-once}
-use Rattle.samples.specs.Samples.{questionIn, theirs, differs, Tells, ComparedAt, tabOf, ComparesLine}
+use Rattle.samples.specs.Samples.{questionIn, theirs, Tells, ComparedAt, tabOf, ComparesLine}
 
 tells-once : (ours theirs t u : List ℕ) → Tells ours theirs t → Tells ours theirs u → t ≡ u
 tells-once ours theirs t u (inl a) (inl b) = a .1 ∙ sym (b .1)

@@ -5,8 +5,8 @@
 //
 // in the words of `answers`, without the verdict, which no other library has. The response is `same`, or `differs` and our answer.
 ghost use mathlib.Core.Path.{_≡_};
-ghost use lib.ListN.{length, take};
-ghost use Prim.Native.Nat.{_≤_, _<_};
+ghost use lib.ListN.{length};
+ghost use Prim.Native.Nat.{_<_};
 ghost use Rattle.text.specs.Text.{Puts};
 ghost use Rattle.reply.specs.Line.{Gives};
 ghost use Rattle.samples.specs.Samples.{nibbleOf, unhex, questionIn, Tells, Told, Compared, tabOf, Compares, ComparesLine};

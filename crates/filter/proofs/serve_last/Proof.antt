@@ -1,7 +1,6 @@
 -- What is put ends within the output.
 use mathlib.Core.Path.{sym}
 use borrow.Author.Needs.{needs}
-use native.Mathlib.Omega.{arith}
 use lib.Seq.{length-take-le}
 use Rattle.text.proofs.Laws.{puts-within}
 use Rattle.filter.proofs.serve_last.Statement.{statement}

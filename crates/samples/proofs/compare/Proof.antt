@@ -1,5 +1,5 @@
 -- By the tab, or that there is none.
-use mathlib.Core.Path.{_≡_, refl, sym, _∙_}
+use mathlib.Core.Path.{refl, sym, _∙_}
 use Rattle.samples.proofs.Lines.{tab-within}
 use Rattle.samples.specs.Samples.{unknown}
 use borrow.Author.Needs.{needs}

@@ -2,7 +2,7 @@
 use mathlib.Core.Bool.{true, false}
 use mathlib.Core.List.{_++_}
 use mathlib.Core.Logic.{inl, inr}
-use mathlib.Core.Path.{_≡_, refl, sym, _∙_}
+use mathlib.Core.Path.{refl, sym, _∙_}
 use Rattle.text.proofs.Laws.{then-puts}
 use Rattle.parser.proofs.Fields.{true≢false}
 use Rattle.samples.specs.Samples.{same, differs}
