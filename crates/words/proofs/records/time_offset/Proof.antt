@@ -3,7 +3,7 @@ use mathlib.Core.Path.{ap, _∙_}
 use mir.Syntax.{w64}
 use mir.Val.{SFits}
 use Rattle.words.specs.Words.{signedWord}
-use Rattle.words.proofs.Sizes.{read}
+use Rattle.text.proofs.Sizes.{read}
 use borrow.Author.Needs.{needs}
 use Rattle.words.proofs.records.time_offset.Statement.{statement}
 use Rattle.words.proofs.records.time_offset.Tie as tie

@@ -1,0 +1,43 @@
+-- How long a time's spelling is: eight bytes, at most ten of the fraction, at most six of the offset.
+use Prim.Native.Nat.{ℕ, _+_, _≤_}
+use mathlib.Core.List.{List, [], _∷_, _++_}
+use mathlib.Core.Bool.{Bool, true, false}
+use mathlib.Core.Path.{_≡_, refl, sym, ap, _∙_}
+use native.Mathlib.Omega.{arith}
+use lib.Dec.{eqb}
+use lib.IntN.{natAbs}
+use lib.ListN.{length, length-append}
+use Rattle.types.specs.declared.Offset.{Offset}
+use Rattle.types.specs.declared.Time.{Time}
+use Rattle.types.specs.declared.TimeOffset.{TimeOffset}
+use Rattle.types.specs.declared.TimeOffset.the-variants.{Absent, Given}
+use Rattle.parser.specs.Reading.{pick}
+use Rattle.writing.specs.Spelling.{padded, signByte, isMinus, isZulu, shiftSpelling, offsetSpelling, clockSpelling, withoutTrailingZeros, fractionSpelling, timeOffsetSpelling, timeSpelling}
+use Rattle.time_writer.proofs.Zeros.{few-digits}
+
+pub fraction-short : (n : ℕ) → length (fractionSpelling n) ≤ 10
+unfolding fractionSpelling
+fraction-short n = go (eqb n 0)
+  where
+    go : (t : Bool) → length (pick t [] (46 ∷ withoutTrailingZeros (padded 9 n))) ≤ 10
+    go true = omega arith
+    go false = omega (arith, few-digits n)
+
+pub offset-short : (o : TimeOffset) → length (timeOffsetSpelling o) ≤ 6
+unfolding timeOffsetSpelling offsetSpelling shiftSpelling padded
+offset-short Absent = omega arith
+offset-short (Given o) = go (isZulu o)
+  where
+    go : (t : Bool) → length (pick t (90 ∷ []) (signByte (isMinus o) ∷ (padded 2 (natAbs (o .hours)) ++ 58 ∷ padded 2 (natAbs (o .minutes))))) ≤ 6
+    go true = omega arith
+    go false = omega arith
+
+pub time-size : (t : Time) → length (timeSpelling t) ≡ 8 + length (fractionSpelling (t .nanosecond)) + length (timeOffsetSpelling (t .offset))
+unfolding timeSpelling clockSpelling padded
+time-size t =
+    let c = clockSpelling (t .hour) (t .minute) (t .second) in
+    let f = fractionSpelling (t .nanosecond) in
+    length-append (c ++ f) (timeOffsetSpelling (t .offset)) ∙ ap (λ (k : ℕ). k + length (timeOffsetSpelling (t .offset))) (length-append c f)
+
+pub time-short : (t : Time) → length (timeSpelling t) ≤ 24
+time-short t = omega (arith, time-size t, fraction-short (t .nanosecond), offset-short (t .offset))

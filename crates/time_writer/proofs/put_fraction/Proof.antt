@@ -1,0 +1,28 @@
+-- Nothing, or the point and the digits without trailing zeros.
+use borrow.Author.Needs.{needs}
+use borrow.Author.Tests.{eq-eqb, ne-eqb}
+use Rattle.text.proofs.Laws.{puts-nothing, then-puts}
+use Rattle.writing.specs.Spelling.{fractionSpelling}
+use Rattle.time_writer.proofs.put_fraction.Statement.{statement}
+use Rattle.time_writer.proofs.put_fraction.Tie as tie
+
+returns : tie.Need-returns
+unfolding fractionSpelling
+returns c = rw (eq-eqb (c .before .before .args .nanosecond) 0 (c .if1 .taken)) (puts-nothing _ _)
+
+returns-2 : tie.Need-returns-2
+unfolding fractionSpelling
+returns-2 c =
+    let digits = c .before .before in
+    let width = digits .before in
+    let point = width .before .before .before .before in
+    let else = point .before .before in
+    rw (ne-eqb (else .before .before .args .nanosecond) 0 (else .if1 .left), width .fraction-width .ensures .digits) (then-puts (point .put-byte .ensures) (digits .put-digits .ensures))
+
+pub put-fraction-spec : {M : Type 1} → statement M
+put-fraction-spec =
+    tie.close
+    (tie.spec
+    returns
+    (λ c κs. search needs) (λ c κs. search needs) (λ c κs. search needs) (λ c. search needs)
+    returns-2)

@@ -1,0 +1,57 @@
+-- The clock's ranges and the offset's are the time's, and the lengths of its parts add up to its own.
+use Prim.Native.Nat.{_+_}
+use mathlib.Core.Path.{_≡_, sym, ap, _∙_}
+use mathlib.Core.Bool.{true, false}
+use native.Mathlib.Omega.{arith}
+use borrow.Author.Needs.{needs}
+use Rattle.types.specs.declared.Time.{Time}
+use Rattle.parser.proofs.Fields.{and-right}
+use Rattle.writing.proofs.Laws.{measure-long, measure-none, readable, not-readable, unread-measures, long-measures}
+use Rattle.time_writer.specs.Ranges.{timeOffsetGiven, clockGiven, timeGiven}
+use Rattle.time_writer.proofs.Lengths.{fraction-short, offset-short, time-size}
+use Rattle.time_writer.proofs.Laws.{time-spells}
+use Rattle.time_writer.proofs.time_length.Statement.{statement}
+use Rattle.time_writer.proofs.time_length.Tie as tie
+
+given : (t : Time) → clockGiven t ≡ true → timeOffsetGiven (t .offset) ≡ true → timeGiven t ≡ true
+unfolding timeGiven
+given t e f = rw (e, f)
+
+no-clock : (t : Time) → clockGiven t ≡ false → timeGiven t ≡ false
+unfolding timeGiven
+no-clock t e = rw e
+
+no-offset : (t : Time) → timeOffsetGiven (t .offset) ≡ false → timeGiven t ≡ false
+unfolding timeGiven
+no-offset t e = and-right (clockGiven t) e
+
+returns : tie.Need-returns
+returns c =
+    let offset = c .before .before .before .before in
+    let clock = offset .before in
+    let t = clock .before .before .args .t in
+    let long = measure-long (timeOffsetGiven (t .offset)) (sym (offset .time-offset-length .ensures) ∙ c .before .before .n .given .1) in
+    long-measures (readable time-spells t (given t (sym (clock .before .clock-given .ensures) ∙ clock .if1 .taken) (long .0)))
+    (sym (time-size t ∙ rw (← c .fraction-length .ensures, ← long .1)))
+
+returns-2 : tie.Need-returns-2
+returns-2 c =
+    let offset = c .before .before in
+    let t = offset .before .before .before .args .t in
+    unread-measures (not-readable time-spells t (no-offset t (measure-none (timeOffsetGiven (t .offset)) _ (sym (offset .time-offset-length .ensures) ∙ c .enum-told .given .1))))
+
+pub time-length-spec : {M : Type 1} → statement M
+time-length-spec =
+    tie.close
+    (tie.spec
+    (λ c κs. search needs) (λ c κs. search needs) (λ c. search needs) (λ c κs. search needs)
+    (λ c. let t = c .before .before .before .before .before .before .before .args .t in record { fits = omega (arith, c .fraction-length .ensures, fraction-short (t .nanosecond)) })
+    (λ c.
+    let offset = c .before .before .before .before in
+    let t = offset .before .before .before .args .t in
+    let long = measure-long (timeOffsetGiven (t .offset)) (sym (offset .time-offset-length .ensures) ∙ c .before .before .n .given .1) in
+    record { fits = omega (arith, c .fraction-length .ensures, fraction-short (t .nanosecond), long .1, offset-short (t .offset)) })
+    (λ c. search needs)
+    returns
+    returns-2
+    (λ c. unread-measures (not-readable time-spells _ (no-clock _ (sym (c .before .clock-given .ensures) ∙ c .if1 .left)))))

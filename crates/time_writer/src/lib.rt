@@ -1,0 +1,171 @@
+// The writer of times: `HH:MM:SS`, a fraction where there is one, and the offset.
+ghost use Prim.Native.Nat.{_-_, _/_, _^_, _≤_};
+ghost use mathlib.Core.Path.{_≡_};
+ghost use lib.ListN.{length};
+ghost use Rattle.time.specs.Rules.{time};
+ghost use Rattle.text.specs.Text.{Puts};
+ghost use Rattle.writing.specs.Spelling.{padded, clockSpelling, fractionSpelling, timeOffsetSpelling, timeSpelling};
+ghost use Rattle.writing.specs.Writing.{measure, Measures, Writes};
+ghost use Rattle.time_writer.specs.Ranges.{tailWidth, FractionWidth, timeOffsetGiven, clockGiven};
+use offset_writer::offset_length;
+use offset_writer::put_offset;
+use text::put_byte;
+use types::Time;
+use types::TimeOffset;
+use writing::Measured;
+use writing::Written;
+use writing::last_digit;
+use writing::put_two;
+
+// The digits of three that are left without trailing zeros; one at least.
+fn tail_width(n: u32) -> usize
+    ensures { λ r. ⌜ r ≡ tailWidth n ⌝ }
+{
+    if n % 10 != 0 {
+        return 3;
+    }
+    if n % 100 != 0 {
+        return 2;
+    }
+    1
+}
+
+// The nanoseconds' digits that are left of nine without trailing zeros: zeros go by threes, and then one by one.
+fn fraction_width(nanosecond: u32) -> usize
+    ensures { λ r. ⌜ FractionWidth nanosecond r ⌝ }
+{
+    if nanosecond % 1000 != 0 {
+        return 6 + tail_width(nanosecond);
+    }
+    let micro = nanosecond / 1000;
+    if micro % 1000 != 0 {
+        return 3 + tail_width(micro);
+    }
+    let milli = micro / 1000;
+    if milli % 1000 != 0 {
+        return tail_width(milli);
+    }
+    0
+}
+
+// Puts the first digits of nine.
+fn put_digits(out: &mut [u8], at: usize, nanosecond: u32, width: usize) -> usize
+    requires { ⌜ width ≤ 9 ⌝ }
+    ensures { λ r. ⌜ Puts (padded width (nanosecond / 10 ^ (9 - width))) (now (out .entry)) at (now (out .exit)) r ⌝ }
+{
+    let mut next = at;
+    let mut unit = 1000000000;
+    let mut i = 0;
+    while i < width {
+        unit = unit / 10;
+        next = put_byte(out, next, last_digit(nanosecond / unit));
+        i += 1;
+    }
+    next
+}
+
+// Puts a point and the fraction, nothing where it is 0.
+fn put_fraction(out: &mut [u8], at: usize, nanosecond: u32) -> usize
+    ensures { λ r. ⌜ Puts (fractionSpelling nanosecond) (now (out .entry)) at (now (out .exit)) r ⌝ }
+{
+    if nanosecond == 0 {
+        return at;
+    }
+    let next = put_byte(out, at, b'.');
+    put_digits(out, next, nanosecond, fraction_width(nanosecond))
+}
+
+fn fraction_length(nanosecond: u32) -> usize
+    ensures { λ r. ⌜ r ≡ length (fractionSpelling nanosecond) ⌝ }
+{
+    if nanosecond == 0 {
+        return 0;
+    }
+    fraction_width(nanosecond) + 1
+}
+
+// HH:MM:SS
+fn put_clock(out: &mut [u8], at: usize, hour: u32, minute: u32, second: u32) -> usize
+    ensures { λ r. ⌜ Puts (clockSpelling hour minute second) (now (out .entry)) at (now (out .exit)) r ⌝ }
+{
+    let next = put_two(out, at, hour);
+    let next = put_byte(out, next, b':');
+    let next = put_two(out, next, minute);
+    let next = put_byte(out, next, b':');
+    put_two(out, next, second)
+}
+
+fn put_time_offset(out: &mut [u8], at: usize, o: TimeOffset) -> usize
+    ensures { λ r. ⌜ Puts (timeOffsetSpelling o) (now (out .entry)) at (now (out .exit)) r ⌝ }
+{
+    match o {
+        TimeOffset::Absent => at,
+        TimeOffset::Given(given) => put_offset(out, at, given),
+    }
+}
+
+fn put_time(out: &mut [u8], t: Time) -> usize
+    ensures { λ r. ⌜ Puts (timeSpelling t) (now (out .entry)) 0 (now (out .exit)) r ⌝ }
+{
+    let next = put_clock(out, 0, t.hour, t.minute, t.second);
+    let next = put_fraction(out, next, t.nanosecond);
+    let offset = t.offset;
+    put_time_offset(out, next, offset)
+}
+
+// The length of an offset's spelling, 0 where it is absent.
+fn time_offset_length(o: TimeOffset) -> Measured
+    ensures { λ r. ⌜ r ≡ measure (timeOffsetGiven o) (length (timeOffsetSpelling o)) ⌝ }
+{
+    match o {
+        TimeOffset::Absent => Measured::Length(0),
+        TimeOffset::Given(given) => offset_length(given),
+    }
+}
+
+// Whether the fields but the offset lie in their ranges.
+fn clock_given(t: Time) -> bool
+    ensures { λ r. ⌜ r ≡ clockGiven t ⌝ }
+{
+    if 23 < t.hour {
+        return false;
+    }
+    if 59 < t.minute {
+        return false;
+    }
+    if 60 < t.second {
+        return false;
+    }
+    t.nanosecond <= 999999999
+}
+
+// The length of the time's spelling, where some reader gives the time.
+pub fn time_length(t: Time) -> Measured
+    ensures { λ r. ⌜ Measures time t (timeSpelling t) r ⌝ }
+{
+    if clock_given(t) {
+        let offset = t.offset;
+        match time_offset_length(offset) {
+            Measured::Length(n) => Measured::Length(8 + fraction_length(t.nanosecond) + n),
+            Measured::NoReader => Measured::NoReader,
+        }
+    } else {
+        Measured::NoReader
+    }
+}
+
+// Writes the time's spelling to the front of the buffer.
+pub fn write_time(t: Time, buffer: &mut [u8]) -> Written
+    ensures { λ r. ⌜ Writes time t (timeSpelling t) (now (buffer .entry)) (now (buffer .exit)) r ⌝ }
+{
+    match time_length(t) {
+        Measured::Length(count) => {
+            if buffer.len() < count {
+                return Written::TooShort;
+            }
+            put_time(buffer, t);
+            Written::Text { count }
+        }
+        Measured::NoReader => Written::NoReader,
+    }
+}

@@ -1,0 +1,169 @@
+-- Digits that are written are read back: a field of any width, a run, a fraction. One law each, over the digits.
+use Prim.Native.Nat.{ℕ, zero, suc, _+_, _*_, _-_, _/_, _%_, _^_, _≤_, _<_}
+use mathlib.Core.List.{List, [], _∷_, _++_, append-assoc, append-nil}
+use mathlib.Core.Bool.{Bool, true, false}
+use mathlib.Core.Path.{_≡_, refl, sym, ap, _∙_}
+use native.Mathlib.Omega.{arith}
+use native.Mathlib.Nat.{add-zero, add-suc, pow-suc, pow-succ', div-one, div-div-eq-div-mul}
+use native.Mathlib.Numerals.{add-one}
+use borrow.Author.Tests.{lt-ltb, le-ltb, le-leb, ltb-true, ltb-false}
+use lib.Dec.{ltb, leb}
+use lib.ListN.{length, getD, drop, length-append}
+use lib.Seq.{getD-append-seam, drop-append-seam}
+use Rattle.parser.specs.Reading.{no, got, pick, within}
+use Rattle.parser.specs.Digits.{isDigit, digitsFrom, field, digits, numberFrom, number, runAt, limit, run, nanoseconds, fraction}
+use Rattle.parser.proofs.Fields.{DigitAt, OtherAt, digitsFrom-suc, digitsFrom-other, digitsFrom-end}
+use Rattle.parser.proofs.Runs.{number-append}
+use Rattle.text.specs.Text.{decimal, decimalOf}
+use Rattle.writing.specs.Spelling.{padded}
+use Rattle.writing.proofs.Texts.{ReadAs, Refuses}
+
+pub data AllDigits : List ℕ → Type 0 where
+  none : AllDigits []
+  also : {b : ℕ} {d : List ℕ} → isDigit b ≡ true → AllDigits d → AllDigits (b ∷ d)
+
+-- whether a digit stands in front
+abbrev pub begins : List ℕ → Bool
+begins [] = false
+begins (b ∷ x) = isDigit b
+
+pub all-append : {d e : List ℕ} → AllDigits d → AllDigits e → AllDigits (d ++ e)
+all-append none h = h
+all-append (also b g) h = also b (all-append g h)
+
+last-is-digit : (v : ℕ) → isDigit (48 + v % 10) ≡ true
+last-is-digit v = rw (le-leb 48 (48 + v % 10) (omega arith), le-leb (48 + v % 10) 57 (omega arith))
+
+last : (v : ℕ) → AllDigits ((48 + v % 10) ∷ [])
+last v = also (last-is-digit v) none
+
+-- ---- a number's digits, in a fixed width and as they come
+
+pub padded-digits : (n v : ℕ) → AllDigits (padded n v)
+unfolding padded
+padded-digits zero v = none
+padded-digits (suc n) v = all-append (padded-digits n (v / 10)) (last v)
+
+pub length-padded : (n v : ℕ) → length (padded n v) ≡ n
+unfolding padded
+length-padded zero v = refl
+length-padded (suc n) v = length-append (padded n (v / 10)) ((48 + v % 10) ∷ []) ∙ omega (arith, length-padded n (v / 10))
+
+pub number-padded : (n v : ℕ) → v < 10 ^ n → number (padded n v) ≡ v
+unfolding padded numberFrom
+number-padded zero v h = omega arith
+number-padded (suc n) v h =
+    let small : v / 10 < 10 ^ n = omega (arith, pow-suc 10 n) in
+    let back : 48 + v % 10 - 48 ≡ v % 10 = omega arith in
+    number-append (padded n (v / 10)) ((48 + v % 10) ∷ []) 0 ∙ rw (number-padded n (v / 10) small, back) (omega arith)
+
+-- the first digits and the last ones, in any two widths
+pub padded-split : (m n v : ℕ) → padded (m + n) v ≡ padded m (v / 10 ^ n) ++ padded n v
+unfolding padded
+padded-split m zero v = rw (add-zero m, div-one v) (sym (append-nil (padded m v)))
+padded-split m (suc n) v =
+    let over : v / 10 / 10 ^ n ≡ v / 10 ^ suc n = div-div-eq-div-mul v 10 (10 ^ n) ∙ rw (← pow-succ' 10 n) in
+    rw (add-suc m n, padded-split m n (v / 10), over) (append-assoc (padded m (v / 10 ^ suc n)) (padded n (v / 10)) ((48 + v % 10) ∷ []))
+
+-- ---- a field
+
+digits-read : (lo hi w : ℕ) (d x : List ℕ) → AllDigits d → (a : List ℕ) → digitsFrom lo hi (length d) w (a ++ (d ++ x)) (length a) ≡ pick (within lo hi (numberFrom w d)) (got (numberFrom w d) (length a + length d)) no
+unfolding digitsFrom numberFrom
+digits-read lo hi w [] x h a = rw (add-zero (length a))
+digits-read lo hi w (b ∷ d) x (also hb h) a =
+    let s = a ++ b ∷ (d ++ x) in
+    let seam : getD s (length a) 0 ≡ b = getD-append-seam a b (d ++ x) 0 in
+    let here : DigitAt s (length a) = record { inside = lt-ltb (length a) (length s) (omega (arith, length-append a (b ∷ (d ++ x)))); is = rw seam hb } in
+    let place : length (a ++ b ∷ []) ≡ length a + 1 = length-append a (b ∷ []) in
+    let same : (a ++ b ∷ []) ++ (d ++ x) ≡ s = append-assoc a (b ∷ []) (d ++ x) in
+    let ends : length a + 1 + length d ≡ length a + suc (length d) = omega arith in
+    digitsFrom-suc lo hi (length d) w s (length a) here ∙ rw seam (rw (place, same, ends) at (digits-read lo hi (w * 10 + (b - 48)) d x h (a ++ b ∷ [])))
+
+pub field-reads : (n lo hi v : ℕ) (x : List ℕ) → lo ≤ v → v ≤ hi → v < 10 ^ n → ReadAs (field n lo hi) (padded n v) x v
+unfolding field
+field-reads n lo hi v x l h p = record {
+  reads = λ a.
+      let e = digits-read lo hi 0 (padded n v) x (padded-digits n v) a in
+      rw (length-padded n v) (rw (length-padded n v, number-padded n v p, le-leb lo v l, le-leb v hi h) at e);
+}
+
+-- too few digits for it
+
+pub digits-missing : (lo hi n w : ℕ) (d x : List ℕ) → AllDigits d → length d < n → begins x ≡ false → (a : List ℕ) → digitsFrom lo hi n w (a ++ (d ++ x)) (length a) ≡ no
+digits-missing lo hi n w [] [] h k o a = rw (append-nil a) (digitsFrom-end lo hi n w a (length a) k (le-ltb (length a) (length a) (omega arith)))
+digits-missing lo hi n w [] (b ∷ x) h k o a =
+    let s = a ++ b ∷ x in
+    digitsFrom-other lo hi n w s (length a) k
+    (record { inside = lt-ltb (length a) (length s) (omega (arith, length-append a (b ∷ x))); is = rw (getD-append-seam a b x 0) o })
+digits-missing lo hi zero w (b ∷ d) x h k o a = absurd (omega arith)
+digits-missing lo hi (suc n) w (b ∷ d) x (also hb h) k o a =
+    let s = a ++ b ∷ (d ++ x) in
+    let seam : getD s (length a) 0 ≡ b = getD-append-seam a b (d ++ x) 0 in
+    let here : DigitAt s (length a) = record { inside = lt-ltb (length a) (length s) (omega (arith, length-append a (b ∷ (d ++ x)))); is = rw seam hb } in
+    let place : length (a ++ b ∷ []) ≡ length a + 1 = length-append a (b ∷ []) in
+    let same : (a ++ b ∷ []) ++ (d ++ x) ≡ s = append-assoc a (b ∷ []) (d ++ x) in
+    digitsFrom-suc lo hi n w s (length a) here ∙ rw seam (rw (place, same) at (digits-missing lo hi n (w * 10 + (b - 48)) d x h (omega arith) o (a ++ b ∷ [])))
+
+pub field-refuses : (n lo hi : ℕ) {d : List ℕ} (x : List ℕ) → AllDigits d → length d < n → begins x ≡ false → Refuses (field n lo hi) (d ++ x)
+unfolding field
+field-refuses n lo hi {d} x h k o = record { finds = digits-missing lo hi n 0 d x h k o }
+
+-- ---- a run and a fraction
+
+run-here : {d : List ℕ} (x : List ℕ) → AllDigits d → begins x ≡ false → digits (d ++ x) ≡ d
+unfolding digits
+run-here [] none o = refl
+run-here (b ∷ x) none o = rw o
+run-here x (also {b} {d} hb h) o = rw hb (ap (λ (l : List ℕ). b ∷ l) (run-here x h o))
+
+run-at : {d : List ℕ} (x : List ℕ) → AllDigits d → begins x ≡ false → (a : List ℕ) → runAt (a ++ (d ++ x)) (length a) ≡ d
+run-at {d} x h o a = ap digits (drop-append-seam a (d ++ x)) ∙ run-here x h o
+
+pub run-reads : {d x : List ℕ} → AllDigits d → 0 < length d → begins x ≡ false → number d ≤ limit → ReadAs run d x (number d)
+unfolding run
+run-reads none k o l = absurd (omega arith)
+run-reads (also {b} {d} hb h) k o l = record { reads = λ a. rw (run-at _ (also {b = b} {d = d} hb h) o a, le-leb (number (b ∷ d)) limit l) }
+
+pub run-refuses : {x : List ℕ} → begins x ≡ false → Refuses run x
+unfolding run
+run-refuses o = record { finds = λ a. rw (run-at _ none o a) }
+
+pub fraction-reads : {d x : List ℕ} → AllDigits d → 0 < length d → begins x ≡ false → ReadAs fraction d x (nanoseconds d)
+unfolding fraction
+fraction-reads none k o = absurd (omega arith)
+fraction-reads (also {b} {d} hb h) k o = record { reads = λ a. rw (run-at _ (also {b = b} {d = d} hb h) o a) }
+
+-- ---- a number as it comes
+
+pub decimal-digits : (k n : ℕ) → AllDigits (decimalOf k n)
+unfolding decimalOf
+decimal-digits zero n = none
+decimal-digits (suc k) n = go (ltb n 10) refl (decimal-digits k (n / 10))
+  where
+    go : (t : Bool) → ltb n 10 ≡ t → AllDigits (decimalOf k (n / 10)) → AllDigits (pick t ((48 + n) ∷ []) (decimalOf k (n / 10) ++ (48 + n % 10) ∷ []))
+    go true e ih = let small = ltb-true n 10 e in also {b = 48 + n} (rw (le-leb 48 (48 + n) (omega arith), le-leb (48 + n) 57 (omega arith))) none
+    go false e ih = all-append ih (last n)
+
+pub number-decimal : (k n : ℕ) → n < 10 ^ k → number (decimalOf k n) ≡ n
+unfolding decimalOf numberFrom
+number-decimal zero n h = omega arith
+number-decimal (suc k) n h = go (ltb n 10) refl (number-decimal k (n / 10) (omega (arith, pow-suc 10 k)))
+  where
+    go : (t : Bool) → ltb n 10 ≡ t → number (decimalOf k (n / 10)) ≡ n / 10 → number (pick t ((48 + n) ∷ []) (decimalOf k (n / 10) ++ (48 + n % 10) ∷ [])) ≡ n
+    go true e ih = omega arith
+    go false e ih =
+        let back : 48 + n % 10 - 48 ≡ n % 10 = omega arith in
+        number-append (decimalOf k (n / 10)) ((48 + n % 10) ∷ []) 0 ∙ rw (ih, back) (omega arith)
+
+some-digit : (k n : ℕ) → 0 < length (decimalOf (suc k) n)
+unfolding decimalOf
+some-digit k n = go (ltb n 10)
+  where
+    go : (t : Bool) → 0 < length (pick t ((48 + n) ∷ []) (decimalOf k (n / 10) ++ (48 + n % 10) ∷ []))
+    go true = omega arith
+    go false = omega (arith, length-append (decimalOf k (n / 10)) ((48 + n % 10) ∷ []))
+
+pub decimal-reads : (n : ℕ) (x : List ℕ) → n ≤ limit → begins x ≡ false → ReadAs run (decimal n) x n
+decimal-reads n x l o =
+    let e = number-decimal 20 n (omega arith) in
+    rw e at (run-reads {x = x} (decimal-digits 20 n) (some-digit 19 n) o (rw e l))

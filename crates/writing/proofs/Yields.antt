@@ -1,0 +1,112 @@
+-- What every value has that a reader finds, from whatever bytes: one law for each combinator.
+use Prim.Native.Nat.{ℕ, _+_, _≤_}
+use mathlib.Core.List.{List, [], _∷_}
+use mathlib.Core.Bool.{Bool, true, false}
+use mathlib.Core.Option.{Option, some, none}
+use mathlib.Core.Path.{_≡_, refl}
+use native.Mathlib.Omega.{arith}
+use borrow.Author.Tests.{leb-true}
+use lib.Dec.{leb}
+use lib.ListN.{length}
+use Rattle.parser.specs.Reading.{Found, no, got, stop, Reader, then, lack, orElse, keep, mapFound, lit, seq, opt, alt, verify, map, give, pick}
+use Rattle.parser.specs.Digits.{field, number, runAt, ofRun, limit, run}
+use Rattle.parser.specs.Fields.{precededBy, orZero}
+use Rattle.parser.proofs.Places.{no≢got, stop≢got, got-value}
+use Rattle.parser.proofs.Leaves.{From, field-within}
+
+pub record Yields {A : Type 0} (F : A → Type 0) (p : Reader A) : Type 0 where
+  pub fact : (s : List ℕ) (at : ℕ) (a : A) (n : ℕ) → p .reads s at ≡ got a n → F a
+
+-- of an optional value: the fact where it is there
+abbrev pub OrLeftOut : {A : Type 0} → (A → Type 0) → Option A → Type 0
+OrLeftOut E none = Unit
+OrLeftOut E (some a) = E a
+
+module _ {A B : Type 0} {E : A → Type 0} {F : B → Type 0} {p : Reader A} (q : A → Reader B) where
+  pub seq-yields : Yields E p → ((a : A) → E a → Yields F (q a)) → Yields F (seq p q)
+  unfolding seq
+  seq-yields h k = record { fact = λ s at b n e. go s (p .reads s at) b n (h .fact s at) e }
+    where
+      go : (s : List ℕ) (f : Found A) (b : B) (n : ℕ) → ((a : A) (m : ℕ) → f ≡ got a m → E a) → then f (λ a m. q a .reads s m) ≡ got b n → F b
+      go s no b n g e = absurd (no≢got e)
+      go s (stop r) b n g e = absurd (stop≢got e)
+      go s (got a m) b n g e = k a (g a m refl) .fact s m b n e
+
+module _ {A : Type 0} {E : A → Type 0} {p : Reader A} where
+  pub map-yields : {B : Type 0} {F : B → Type 0} (f : A → B) → ((a : A) → E a → F (f a)) → Yields E p → Yields F (map f p)
+  unfolding map
+  map-yields {B} {F} f i h = record { fact = λ s at b n e. go (p .reads s at) b n (h .fact s at) e }
+    where
+      go : (x : Found A) (b : B) (n : ℕ) → ((a : A) (m : ℕ) → x ≡ got a m → E a) → mapFound f x ≡ got b n → F b
+      go no b n g e = absurd (no≢got e)
+      go (stop r) b n g e = absurd (stop≢got e)
+      go (got a m) b n g e = let same : f a ≡ b = got-value e in rw (← same) (i a (g a m refl))
+
+  pub opt-yields : Yields E p → Yields (OrLeftOut E) (opt p)
+  unfolding opt
+  opt-yields h = record { fact = λ s at b n e. go at (p .reads s at) b n (h .fact s at) e }
+    where
+      go : (at : ℕ) (x : Found A) (b : Option A) (n : ℕ) → ((a : A) (m : ℕ) → x ≡ got a m → E a) → lack at x ≡ got b n → OrLeftOut E b
+      go at no b n g e = let same : none ≡ b = got-value e in rw (← same) tt
+      go at (stop r) b n g e = absurd (stop≢got e)
+      go at (got a m) b n g e = let same : some a ≡ b = got-value e in rw (← same) (g a m refl)
+
+  pub alt-yields : {q : Reader A} → Yields E p → Yields E q → Yields E (alt p q)
+  unfolding alt
+  alt-yields {q} h k = record { fact = λ s at b n e. go (p .reads s at) (q .reads s at) b n (h .fact s at) (k .fact s at) e }
+    where
+      go : (x y : Found A) (b : A) (n : ℕ) → ((a : A) (m : ℕ) → x ≡ got a m → E a) → ((a : A) (m : ℕ) → y ≡ got a m → E a) → orElse x y ≡ got b n → E b
+      go no y b n g j e = j b n e
+      go (stop r) y b n g j e = absurd (stop≢got e)
+      go (got a m) y b n g j e = g b n e
+
+  -- and it passed the test
+  pub verify-yields : {F : A → Type 0} (f : A → Bool) → ((a : A) → E a → f a ≡ true → F a) → Yields E p → Yields F (verify f p)
+  unfolding verify
+  verify-yields {F} f i h = record { fact = λ s at b n e. go (p .reads s at) b n (h .fact s at) e }
+    where
+      test : (a b : A) (m n : ℕ) (t : Bool) → f a ≡ t → E a → pick t (got a m) no ≡ got b n → F b
+      test a b m n true t g e = let same : a ≡ b = got-value e in rw (← same) (i a g t)
+      test a b m n false t g e = absurd (no≢got e)
+
+      go : (x : Found A) (b : A) (n : ℕ) → ((a : A) (m : ℕ) → x ≡ got a m → E a) → keep f x ≡ got b n → F b
+      go no b n g e = absurd (no≢got e)
+      go (stop r) b n g e = absurd (stop≢got e)
+      go (got a m) b n g e = test a b m n (f a) refl (g a m refl) e
+
+pub give-yields : {A : Type 0} (F : A → Type 0) (a : A) → F a → Yields F (give a)
+unfolding give
+give-yields F a h = record { fact = λ s at b n e. let same : a ≡ b = got-value e in rw (← same) h }
+
+-- of which nothing has to be known
+abbrev pub Anything : {A : Type 0} → A → Type 0
+Anything a = Unit
+
+pub anything : {A : Type 0} (p : Reader A) → Yields Anything p
+anything p = record { fact = λ s at a n e. tt }
+
+-- an optional byte in front
+pub preceded-yields : {A : Type 0} {F : A → Type 0} {p : Reader A} (c : ℕ) → Yields F p → Yields F (precededBy c p)
+preceded-yields c h = seq-yields _ (anything (opt (lit c))) (λ a z. h)
+
+-- ---- digits
+
+pub field-yields : (n lo hi : ℕ) → Yields (From lo hi) (field n lo hi)
+field-yields n lo hi = record { fact = field-within n lo hi }
+
+-- "Absent fields are 0."
+pub absent-within : (hi : ℕ) (m : Option ℕ) → OrLeftOut (From 0 hi) m → orZero m ≤ hi
+absent-within hi none f = omega arith
+absent-within hi (some v) f = f .1
+
+pub run-yields : Yields (λ v. v ≤ limit) run
+unfolding run
+run-yields = record { fact = λ s at a n e. go (runAt s at) at a n e }
+  where
+    test : (d : List ℕ) (at a n : ℕ) (t : Bool) → leb (number d) limit ≡ t → pick t (got (number d) (at + length d)) (stop 2) ≡ got a n → a ≤ limit
+    test d at a n true t e = let same : number d ≡ a = got-value e in rw (← same) (leb-true (number d) limit t)
+    test d at a n false t e = absurd (stop≢got e)
+
+    go : (d : List ℕ) (at a n : ℕ) → ofRun d no (pick (leb (number d) limit) (got (number d) (at + length d)) (stop 2)) ≡ got a n → a ≤ limit
+    go [] at a n e = absurd (no≢got e)
+    go (b ∷ d) at a n e = test (b ∷ d) at a n (leb (number (b ∷ d)) limit) refl e

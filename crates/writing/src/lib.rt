@@ -1,0 +1,72 @@
+// What writers share: their answer, and digits in a fixed width.
+ghost use mathlib.Core.Path.{_≡_};
+ghost use Prim.Native.Nat.{_+_, _%_};
+ghost use lib.IntN.{natAbs};
+ghost use Rattle.text.specs.Text.{Puts};
+ghost use Rattle.writing.specs.Spelling.{padded};
+ghost use Rattle.writing.specs.Writing.{numberOf, countOf};
+use text::put_byte;
+
+// The text's length; or that no reader gives the record; or that the buffer is shorter than the text.
+pub enum Written {
+    Text { count: usize },
+    NoReader,
+    TooShort,
+}
+
+// The length of a record's spelling; or that no reader gives the record.
+pub enum Measured {
+    Length(usize),
+    NoReader,
+}
+
+impl Written {
+    // 0, 4 or 5, the paper's number.
+    pub fn number(self) -> u32
+        ensures { λ r. ⌜ r ≡ numberOf self ⌝ }
+    {
+        match self {
+            Written::Text { count: _ } => 0,
+            Written::NoReader => 4,
+            Written::TooShort => 5,
+        }
+    }
+
+    // The text's length, 0 where none was written.
+    pub fn count(self) -> usize
+        ensures { λ r. ⌜ r ≡ countOf self ⌝ }
+    {
+        match self {
+            Written::Text { count } => count,
+            Written::NoReader => 0,
+            Written::TooShort => 0,
+        }
+    }
+}
+
+// A number without its sign.
+pub fn size(n: i32) -> u32
+    ensures { λ r. ⌜ r ≡ natAbs n ⌝ }
+{
+    if n < 0 {
+        // The least number's negation does not fit, and that of the next number does.
+        let less = 0 - (n + 1);
+        return (less as u32) + 1;
+    }
+    n as u32
+}
+
+// A number's last decimal digit.
+pub fn last_digit(n: u32) -> u8
+    ensures { λ r. ⌜ r ≡ 48 + n % 10 ⌝ }
+{
+    48 + ((n % 10) as u8)
+}
+
+// Puts a number's last two decimal digits.
+pub fn put_two(out: &mut [u8], at: usize, n: u32) -> usize
+    ensures { λ r. ⌜ Puts (padded 2 n) (now (out .entry)) at (now (out .exit)) r ⌝ }
+{
+    let next = put_byte(out, at, last_digit(n / 10));
+    put_byte(out, next, last_digit(n))
+}
