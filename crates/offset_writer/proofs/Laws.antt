@@ -18,7 +18,7 @@ use Rattle.parser.proofs.Fields.{and-first, and-second}
 use Rattle.offset.specs.Rules.{allowed, offsetMinute, offsetHour, offsetZulu, offset}
 use Rattle.writing.specs.Spelling.{padded, signByte, isMinus, isZulu, shiftSpelling, offsetSpelling}
 use Rattle.writing.proofs.Texts.{ReadAs, lit-reads, lit-refuses, seq-reads, seq-refuses, map-reads, map-refuses, verify-reads, opt-reads, alt-first, alt-second, alt-refuses, whole}
-use Rattle.writing.proofs.Digits.{field-reads}
+use Rattle.writing.proofs.Digits.{natAbs-signed, field-reads}
 use Rattle.writing.proofs.Yields.{Yields, seq-yields, map-yields, opt-yields, alt-yields, verify-yields, preceded-yields, field-yields, anything, absent-within}
 use Rattle.writing.proofs.Laws.{Spells}
 use Rattle.offset_writer.specs.Ranges.{offsetGiven}
@@ -35,11 +35,6 @@ shift-reads minus h m x hh hm ok =
     (seq-reads _ (sign-reads minus _)
     (seq-reads _ (field-reads 2 0 23 h _ (omega arith) hh (omega arith))
     (map-reads _ (verify-reads _ ok (opt-reads (seq-reads _ (opt-reads (lit-reads 58 _)) (field-reads 2 0 59 m x (omega arith) hm (omega arith))))))))
-
-natAbs-signed : (minus : Bool) (n : ℕ) → natAbs (withSign minus n) ≡ n
-natAbs-signed false n = refl
-natAbs-signed true zero = refl
-natAbs-signed true (suc n) = refl
 
 zulu-reads : (x : List ℕ) → ReadAs offset (90 ∷ []) x (signedOffset false 0 0)
 unfolding offset offsetHour offsetZulu

@@ -9,12 +9,6 @@ use lib.Signed.{ltZ, leZ}
 use Rattle.types.specs.Sums.{or, sameSign}
 use Rattle.parser.proofs.Says.{or-false}
 use Rattle.parser.proofs.Fields.{true≢false}
-use Rattle.writing.specs.Spelling.{negative}
-
-pub negative-is : (z : ℤ) (t : Bool) → ltZ z (pos 0) ≡ t → negative z ≡ t
-negative-is (pos n) true e = absurd (omega (arith, ltb-true n 0 e))
-negative-is (pos n) false e = refl
-negative-is (negsuc n) t e = e
 
 pub same-below : (h m : ℤ) → ltZ h (pos 0) ≡ true → leZ m (pos 0) ≡ sameSign (record { hours = h; minutes = m })
 unfolding sameSign

@@ -8,15 +8,18 @@ use native.Mathlib.Nat.{add-zero, add-suc, pow-suc, pow-succ', div-one, div-div-
 use native.Mathlib.Numerals.{add-one}
 use borrow.Author.Tests.{lt-ltb, le-ltb, le-leb, ltb-true, ltb-false}
 use lib.Dec.{ltb, leb}
+use lib.IntN.{natAbs}
 use lib.ListN.{length, getD, drop, length-append}
 use lib.Seq.{getD-append-seam, drop-append-seam}
-use Rattle.parser.specs.Reading.{no, got, pick, within}
+use Rattle.types.specs.Sums.{withSign}
+use Rattle.parser.specs.Reading.{no, got, lit, pick, within}
 use Rattle.parser.specs.Digits.{isDigit, digitsFrom, field, digits, numberFrom, number, runAt, limit, run, nanoseconds, fraction}
 use Rattle.parser.proofs.Fields.{DigitAt, OtherAt, digitsFrom-suc, digitsFrom-other, digitsFrom-end}
 use Rattle.parser.proofs.Runs.{number-append}
+use Rattle.parser.proofs.Leaves.{digit-is-not}
 use Rattle.text.specs.Text.{decimal, decimalOf}
 use Rattle.writing.specs.Spelling.{padded}
-use Rattle.writing.proofs.Texts.{ReadAs, Refuses}
+use Rattle.writing.proofs.Texts.{ReadAs, Refuses, lit-refuses}
 
 pub data AllDigits : List ℕ → Type 0 where
   none : AllDigits []
@@ -36,6 +39,12 @@ last-is-digit v = rw (le-leb 48 (48 + v % 10) (omega arith), le-leb (48 + v % 10
 
 last : (v : ℕ) → AllDigits ((48 + v % 10) ∷ [])
 last v = also (last-is-digit v) none
+
+-- a number behind its sign
+pub natAbs-signed : (minus : Bool) (n : ℕ) → natAbs (withSign minus n) ≡ n
+natAbs-signed false n = refl
+natAbs-signed true zero = refl
+natAbs-signed true (suc n) = refl
 
 -- ---- a number's digits, in a fixed width and as they come
 
@@ -64,6 +73,14 @@ padded-split m zero v = rw (add-zero m, div-one v) (sym (append-nil (padded m v)
 padded-split m (suc n) v =
     let over : v / 10 / 10 ^ n ≡ v / 10 ^ suc n = div-div-eq-div-mul v 10 (10 ^ n) ∙ rw (← pow-succ' 10 n) in
     rw (add-suc m n, padded-split m n (v / 10), over) (append-assoc (padded m (v / 10 ^ suc n)) (padded n (v / 10)) ((48 + v % 10) ∷ []))
+
+-- in front of digits no other byte is read
+pub padded-refuses : (c n v : ℕ) (x : List ℕ) → isDigit c ≡ false → Refuses (lit c) (padded (suc n) v ++ x)
+padded-refuses c n v x e = go (padded (suc n) v) (padded-digits (suc n) v) (length-padded (suc n) v)
+  where
+    go : (d : List ℕ) → AllDigits d → length d ≡ suc n → Refuses (lit c) (d ++ x)
+    go [] h k = absurd (omega arith)
+    go (b ∷ d) (also hb h) k = lit-refuses c (digit-is-not c e b hb)
 
 -- ---- a field
 

@@ -11,6 +11,7 @@ use borrow.Author.Tests.{lt-ltb, le-ltb, eq-eqb}
 use lib.Dec.{ltb, eqb}
 use lib.ListN.{length, getD, length-append}
 use lib.Seq.{getD-append-seam}
+use Rattle.parser.proofs.Alike.{Alike}
 use Rattle.parser.specs.Reading.{Found, no, got, stop, Reader, then, lack, orElse, keep, mapFound, lit, seq, opt, alt, verify, map, give, pick, and}
 
 -- the reader p reads the text t to the value v, where x stands behind it and whatever stands before it
@@ -106,3 +107,7 @@ module _ {A : Type 0} {p : Reader A} where
 pub give-reads : {A : Type 0} (v : A) (x : List ℕ) → ReadAs (give v) [] x v
 unfolding give
 give-reads v x = record { reads = λ a. rw (add-zero (length a)) }
+
+-- what reads alike reads the same texts
+pub alike-reads : {A : Type 0} {p q : Reader A} {t x : List ℕ} {v : A} → Alike p q → ReadAs q t x v → ReadAs p t x v
+alike-reads {t = t} {x = x} e h = record { reads = λ a. e (a ++ (t ++ x)) (length a) .reads ∙ h .reads a }

@@ -1,7 +1,7 @@
 -- Each is compared with 0.
 use mathlib.Core.Bool.{true, false}
 use Rattle.text.proofs.Sizes.{read}
-use Rattle.offset_writer.proofs.Signs.{negative-is}
+use Rattle.writing.proofs.Signs.{negative-is}
 use Rattle.offset_writer.proofs.is_minus.Statement.{statement}
 use Rattle.offset_writer.proofs.is_minus.Tie as tie
 
