@@ -134,7 +134,7 @@ one-to-seven : (d : Option ℕ) → oneToSeven d ≡ true → From 1 7 (orFirst 
 one-to-seven none t = (omega arith, omega arith)
 one-to-seven (some d) t = within-from 1 7 d t
 
-date-yields : Yields (λ d. dateGiven d ≡ true) date
+pub date-yields : Yields (λ d. dateGiven d ≡ true) date
 unfolding date weekAndDay dayOfWeek mdNumeric ordinal monthAndDay dayOfMonth
 date-yields =
     alt-yields

@@ -1,0 +1,60 @@
+// The writer of date-times: the date, `T`, and the time in the part of the buffer that begins behind them.
+ghost use Prim.Native.Nat.{_≤_};
+ghost use mathlib.Core.Path.{_≡_};
+ghost use mathlib.Core.Bool.{true};
+ghost use lib.ListN.{length};
+ghost use Rattle.datetime.specs.Rules.{dateTime};
+ghost use Rattle.writing.specs.Spelling.{dateTimeSpelling};
+ghost use Rattle.writing.specs.Writing.{over, Measures, Writes};
+ghost use Rattle.datetime_writer.specs.Ranges.{dateTimeGiven};
+use date_writer::date_length;
+use date_writer::write_date;
+use time_writer::time_length;
+use time_writer::write_time;
+use types::DateTime;
+use writing::Measured;
+use writing::Written;
+
+// The length of the date-time's spelling, where some reader gives the date-time.
+pub fn datetime_length(x: DateTime) -> Measured
+    ensures { λ r. ⌜ Measures dateTime x (dateTimeSpelling x) r ⌝ }
+{
+    let date = x.date;
+    let time = x.time;
+    match date_length(date) {
+        Measured::Length(d) => match time_length(time) {
+            Measured::Length(t) => Measured::Length(d + 1 + t),
+            Measured::NoReader => Measured::NoReader,
+        },
+        Measured::NoReader => Measured::NoReader,
+    }
+}
+
+// Date and time have each their own writer; the time's is lent what lies behind the date and its `T`.
+fn put_datetime(buffer: &mut [u8], x: DateTime)
+    requires { ⌜ (dateTimeGiven x ≡ true) × (length (dateTimeSpelling x) ≤ length (now buffer)) ⌝ }
+    ensures { λ _. ⌜ now (buffer .exit) ≡ over (dateTimeSpelling x) (now (buffer .entry)) ⌝ }
+{
+    let date = x.date;
+    let time = x.time;
+    let n = write_date(date, buffer).count();
+    buffer[n] = b'T';
+    let from = n + 1;
+    write_time(time, &mut buffer[from..]);
+}
+
+// Writes the date-time's spelling to the front of the buffer.
+pub fn write_datetime(x: DateTime, buffer: &mut [u8]) -> Written
+    ensures { λ r. ⌜ Writes dateTime x (dateTimeSpelling x) (now (buffer .entry)) (now (buffer .exit)) r ⌝ }
+{
+    match datetime_length(x) {
+        Measured::Length(count) => {
+            if buffer.len() < count {
+                return Written::TooShort;
+            }
+            put_datetime(buffer, x);
+            Written::Text { count }
+        }
+        Measured::NoReader => Written::NoReader,
+    }
+}
