@@ -12,8 +12,8 @@ use Rattle.date_writer.proofs.Lengths.{date-short}
 use Rattle.time_writer.proofs.Lengths.{time-short}
 use Rattle.datetime_writer.proofs.Laws.{size-is}
 
-pub longest : (x : DateTime) → length (dateTimeSpelling x) ≤ 36
-longest x = omega (arith, size-is x, date-short (x .date), time-short (x .time))
+pub longest-stamp : (x : DateTime) → length (dateTimeSpelling x) ≤ 36
+longest-stamp x = omega (arith, size-is x, date-short (x .date), time-short (x .time))
 
 -- `-9999-12-31T23:59:60.123456789-23:59`
 pub last-stamp : DateTime

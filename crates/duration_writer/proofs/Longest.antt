@@ -22,9 +22,9 @@ date-most d w =
 time-most : (d : Duration) → Within d → length (timeParts d) ≤ 33
 time-most d w = omega (arith, time-size d, part-most (d .hours) 72 (w .hours), part-most (d .minutes) 77 (w .minutes), part-most (d .seconds) 83 (w .seconds))
 
-pub longest : (d : Duration) → durationGiven d ≡ true → length (durationSpelling d) ≤ 79
+pub longest-duration : (d : Duration) → durationGiven d ≡ true → length (durationSpelling d) ≤ 79
 unfolding durationSpelling
-longest d g = go (isZero d) (given-within d g)
+longest-duration d g = go (isZero d) (given-within d g)
   where
     go : (t : Bool) → Within d → length (pick t (80 ∷ 84 ∷ 48 ∷ 83 ∷ []) (80 ∷ dateParts d ++ behindT (timeParts d))) ≤ 79
     go true w = omega arith

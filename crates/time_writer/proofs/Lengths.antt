@@ -5,14 +5,13 @@ use mathlib.Core.Bool.{Bool, true, false}
 use mathlib.Core.Path.{_≡_, refl, sym, ap, _∙_}
 use native.Mathlib.Omega.{arith}
 use lib.Dec.{eqb}
-use lib.IntN.{natAbs}
 use lib.ListN.{length, length-append}
-use Rattle.types.specs.declared.Offset.{Offset}
 use Rattle.types.specs.declared.Time.{Time}
 use Rattle.types.specs.declared.TimeOffset.{TimeOffset}
 use Rattle.types.specs.declared.TimeOffset.the-variants.{Absent, Given}
 use Rattle.parser.specs.Reading.{pick}
-use Rattle.writing.specs.Spelling.{padded, signByte, isMinus, isZulu, shiftSpelling, offsetSpelling, clockSpelling, withoutTrailingZeros, fractionSpelling, timeOffsetSpelling, timeSpelling}
+use Rattle.writing.specs.Spelling.{padded, clockSpelling, withoutTrailingZeros, fractionSpelling, timeOffsetSpelling, timeSpelling}
+use Rattle.offset_writer.proofs.Lengths.{offset-short}
 use Rattle.time_writer.proofs.Zeros.{few-digits}
 
 pub fraction-short : (n : ℕ) → length (fractionSpelling n) ≤ 10
@@ -23,14 +22,10 @@ fraction-short n = go (eqb n 0)
     go true = omega arith
     go false = omega (arith, few-digits n)
 
-pub offset-short : (o : TimeOffset) → length (timeOffsetSpelling o) ≤ 6
-unfolding timeOffsetSpelling offsetSpelling shiftSpelling padded
-offset-short Absent = omega arith
-offset-short (Given o) = go (isZulu o)
-  where
-    go : (t : Bool) → length (pick t (90 ∷ []) (signByte (isMinus o) ∷ (padded 2 (natAbs (o .hours)) ++ 58 ∷ padded 2 (natAbs (o .minutes))))) ≤ 6
-    go true = omega arith
-    go false = omega arith
+pub zone-short : (o : TimeOffset) → length (timeOffsetSpelling o) ≤ 6
+unfolding timeOffsetSpelling
+zone-short Absent = omega arith
+zone-short (Given o) = offset-short o
 
 pub time-size : (t : Time) → length (timeSpelling t) ≡ 8 + length (fractionSpelling (t .nanosecond)) + length (timeOffsetSpelling (t .offset))
 unfolding timeSpelling clockSpelling padded
@@ -40,4 +35,4 @@ time-size t =
     length-append (c ++ f) (timeOffsetSpelling (t .offset)) ∙ ap (λ (k : ℕ). k + length (timeOffsetSpelling (t .offset))) (length-append c f)
 
 pub time-short : (t : Time) → length (timeSpelling t) ≤ 24
-time-short t = omega (arith, time-size t, fraction-short (t .nanosecond), offset-short (t .offset))
+time-short t = omega (arith, time-size t, fraction-short (t .nanosecond), zone-short (t .offset))

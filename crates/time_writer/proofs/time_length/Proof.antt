@@ -8,7 +8,7 @@ use Rattle.types.specs.declared.Time.{Time}
 use Rattle.parser.proofs.Fields.{and-right}
 use Rattle.writing.proofs.Laws.{measure-long, measure-none, readable, not-readable, unread-measures, long-measures}
 use Rattle.time_writer.specs.Ranges.{timeOffsetGiven, clockGiven, timeGiven}
-use Rattle.time_writer.proofs.Lengths.{fraction-short, offset-short, time-size}
+use Rattle.time_writer.proofs.Lengths.{fraction-short, zone-short, time-size}
 use Rattle.time_writer.proofs.Laws.{time-spells}
 use Rattle.time_writer.proofs.time_length.Statement.{statement}
 use Rattle.time_writer.proofs.time_length.Tie as tie
@@ -50,7 +50,7 @@ time-length-spec =
     let offset = c .before .before .before .before in
     let t = offset .before .before .before .args .t in
     let long = measure-long (timeOffsetGiven (t .offset)) (sym (offset .time-offset-length .ensures) ∙ c .before .before .n .given .1) in
-    record { fits = omega (arith, c .fraction-length .ensures, fraction-short (t .nanosecond), long .1, offset-short (t .offset)) })
+    record { fits = omega (arith, c .fraction-length .ensures, fraction-short (t .nanosecond), long .1, zone-short (t .offset)) })
     (λ c. search needs)
     returns
     returns-2

@@ -1,0 +1,62 @@
+-- What holds of every spelling, once over the kind: each kind's own laws, under the name of its records.
+use Prim.Native.Nat.{ℕ, _≤_}
+use mathlib.Core.List.{List}
+use mathlib.Core.Path.{_≡_, refl}
+use native.Mathlib.Omega.{arith}
+use lib.ListN.{length}
+use Rattle.parser.specs.Reading.{got}
+use Rattle.parser.specs.Answer.{recorded, Ended}
+use Rattle.date.specs.Rules.{date}
+use Rattle.time.specs.Rules.{time}
+use Rattle.offset.specs.Rules.{offset}
+use Rattle.datetime.specs.Rules.{dateTime}
+use Rattle.duration.specs.Rules.{duration}
+use Rattle.kinds.specs.declared.answer.Kind.{Kind}
+use Rattle.kinds.specs.declared.answer.Kind.the-variants as kind
+use Rattle.kinds.specs.declared.answer.Record.{Record}
+use Rattle.kinds.specs.declared.answer.Record.the-variants as record-of
+use Rattle.kinds.specs.Kinds.{ruleOf}
+use Rattle.kinds.proofs.As.{ends-as}
+use Rattle.writing.specs.Spelling.{offsetSpelling, timeSpelling, dateSpelling, dateTimeSpelling, durationSpelling}
+use Rattle.writing.specs.Writing.{Readable}
+use Rattle.writing.proofs.Yields.{Yields, map-yields, anything}
+use Rattle.writing.proofs.Laws.{read-back}
+use Rattle.offset_writer.proofs.Laws.{offset-spells}
+use Rattle.offset_writer.proofs.Lengths.{offset-short}
+use Rattle.time_writer.proofs.Laws.{time-spells}
+use Rattle.time_writer.proofs.Lengths.{time-short}
+use Rattle.date_writer.proofs.Laws.{date-spells}
+use Rattle.date_writer.proofs.Lengths.{date-short}
+use Rattle.datetime_writer.proofs.Laws.{dateTime-spells}
+use Rattle.datetime_writer.proofs.Longest.{longest-stamp}
+use Rattle.duration_writer.proofs.Laws.{duration-spells}
+use Rattle.duration_writer.proofs.Longest.{longest-duration}
+use Rattle.writers.specs.Spellings.{kindOf, spelling}
+use Rattle.writers.proofs.As.{readable-back}
+
+-- a kind's rule gives records of that kind
+of-kind : (k : Kind) → Yields (λ r. kindOf r ≡ k) (ruleOf k)
+of-kind kind.Date = map-yields _ (λ a z. refl) (anything date)
+of-kind kind.Time = map-yields _ (λ a z. refl) (anything time)
+of-kind kind.Offset = map-yields _ (λ a z. refl) (anything offset)
+of-kind kind.Stamp = map-yields _ (λ a z. refl) (anything dateTime)
+of-kind kind.Duration = map-yields _ (λ a z. refl) (anything duration)
+
+pub kind-read : (k : Kind) (s : List ℕ) (r : Record) (n : ℕ) → ruleOf k .reads s 0 ≡ got r n → kindOf r ≡ k
+kind-read k s r n e = of-kind k .fact s 0 r n e
+
+-- "A whole reading of what was written gives the record back"
+pub reads-back : (r : Record) → Readable (ruleOf (kindOf r)) r → Ended (ruleOf (kindOf r)) (spelling r) (recorded r (length (spelling r)))
+reads-back (record-of.Date v) h = ends-as record-of.Date date (dateSpelling v) refl (read-back date-spells v (readable-back record-of.Date (λ a b e. cc) h))
+reads-back (record-of.Time v) h = ends-as record-of.Time time (timeSpelling v) refl (read-back time-spells v (readable-back record-of.Time (λ a b e. cc) h))
+reads-back (record-of.Offset v) h = ends-as record-of.Offset offset (offsetSpelling v) refl (read-back offset-spells v (readable-back record-of.Offset (λ a b e. cc) h))
+reads-back (record-of.Stamp v) h = ends-as record-of.Stamp dateTime (dateTimeSpelling v) refl (read-back dateTime-spells v (readable-back record-of.Stamp (λ a b e. cc) h))
+reads-back (record-of.Duration v) h = ends-as record-of.Duration duration (durationSpelling v) refl (read-back duration-spells v (readable-back record-of.Duration (λ a b e. cc) h))
+
+-- no spelling is longer than a duration's
+pub spelling-short : (r : Record) → Readable (ruleOf (kindOf r)) r → length (spelling r) ≤ 79
+spelling-short (record-of.Date v) h = omega (arith, date-short v)
+spelling-short (record-of.Time v) h = omega (arith, time-short v)
+spelling-short (record-of.Offset v) h = omega (arith, offset-short v)
+spelling-short (record-of.Stamp v) h = omega (arith, longest-stamp v)
+spelling-short (record-of.Duration v) h = longest-duration v (duration-spells .ranges v (readable-back record-of.Duration (λ a b e. cc) h))

@@ -1,0 +1,2 @@
+pub mod As
+pub mod Laws
