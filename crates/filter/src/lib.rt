@@ -34,6 +34,7 @@ fn tell_unread(program: Program) {
     match program {
         Program::Answers => tell(b"answers: standard input"),
         Program::Replay => tell(b"replay: standard input"),
+        Program::Spell => tell(b"spell: standard input"),
     }
 }
 
@@ -41,6 +42,7 @@ fn tell_unwritten(program: Program) {
     match program {
         Program::Answers => tell(b"answers: standard output"),
         Program::Replay => tell(b"replay: standard output"),
+        Program::Spell => tell(b"spell: standard output"),
     }
 }
 

@@ -22,7 +22,7 @@ use Rattle.words.specs.Words.{lettersOf, wordText, textOf}
 use Rattle.words.specs.Records.{headWords, dateWords}
 use Rattle.reply.specs.Line.{firstWords, thenWords, recordOrDash, questionOf, AnswersTo, AnswersLine}
 
-digits-short : (k n : ℕ) → length (decimalOf k n) ≤ k
+pub digits-short : (k n : ℕ) → length (decimalOf k n) ≤ k
 unfolding decimalOf
 digits-short zero n = omega arith
 digits-short (suc k) n = step (ltb n 10) (digits-short k (n / 10))

@@ -73,7 +73,7 @@ fn answer_text(kind: Kind, s: &[u8], shown: bool, out: &mut [u8], at: usize) -> 
 }
 
 // The kind that a line names, where it is a letter, a space and at most 200 bytes. Of a line that is too long the first bytes are enough.
-fn question(line: &[u8]) -> Letter
+pub fn question(line: &[u8]) -> Letter
     ensures { λ r. ⌜ r ≡ questionOf (now (line .entry)) ⌝ }
 {
     if line.len() < 2 {

@@ -8,14 +8,16 @@ use Rattle.lines.specs.Lines.{split, lines, between, Holds, Moves}
 use Rattle.text.specs.Text.{Puts}
 use Rattle.reply.specs.Line.{AnswersLine}
 use Rattle.samples.specs.Samples.{ComparesLine}
+use Rattle.spellings.specs.Said.{spelledLine}
 use Rattle.stream.specs.declared.Program.{Program}
-use Rattle.stream.specs.declared.Program.the-variants.{Answers, Replay}
+use Rattle.stream.specs.declared.Program.the-variants.{Answers, Replay, Spell}
 use Rattle.stream.specs.declared.Reached.{Reached}
 
 -- t is the response of a program to the line l
 abbrev pub Responds : Program → List ℕ → List ℕ → Type 0
 Responds Answers l t = AnswersLine l t
 Responds Replay l t = ComparesLine l t
+Responds Spell l t = t ≡ spelledLine l
 
 -- t is a response to the line l, and what others say of what stands behind it
 pub record First (p : Program) (l : List ℕ) (others : List ℕ → Type 0) (t : List ℕ) : Type 0 where

@@ -12,6 +12,7 @@ ghost use Rattle.stream.specs.Stream.{Responds, One, Steps, Finishes};
 pub enum Program {
     Answers,
     Replay,
+    Spell,
 }
 
 // No program takes a line of so many bytes, so that of a longer one these are enough. A buffer for what is held has at least as many.
@@ -34,6 +35,7 @@ pub fn respond(program: Program, line: &[u8], out: &mut [u8], at: usize) -> usiz
     match program {
         Program::Answers => reply::answer_line(line, out, at),
         Program::Replay => samples::compare_line(line, out, at),
+        Program::Spell => spellings::spell_line(line, out, at),
     }
 }
 
