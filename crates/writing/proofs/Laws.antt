@@ -136,15 +136,23 @@ module _ {A : Type 0} {p : Reader A} {text : A → List ℕ} {given : A → Bool
       go true f = omega (arith, x .short r (ltb-true (length old) (length (text a)) f) .number)
       go false f = omega (arith, x .fits r (ltb-false (length old) (length (text a)) f) .number)
 
-  -- and what was written with 0 is read back whole
-  pub written-read-back : {new : List ℕ} {w : Written} → Writes p a (text a) old new w → numberOf w ≡ 0 → Ended p (take (countOf w) new) (recorded a (countOf w))
-  written-read-back {new} {w} x e = go (given a) refl (ltb (length old) (length (text a))) refl
+  -- what was written with 0 is the spelling
+  pub written-text : {new : List ℕ} {w : Written} → Writes p a (text a) old new w → numberOf w ≡ 0 → (Readable p a) × (countOf w ≡ length (text a)) × (take (countOf w) new ≡ text a)
+  written-text {new} {w} x e = go (given a) refl (ltb (length old) (length (text a))) refl
     where
-      go : (t : Bool) → given a ≡ t → (s : Bool) → ltb (length old) (length (text a)) ≡ s → Ended p (take (countOf w) new) (recorded a (countOf w))
+      go : (t : Bool) → given a ≡ t → (s : Bool) → ltb (length old) (length (text a)) ≡ s → (Readable p a) × (countOf w ≡ length (text a)) × (take (countOf w) new ≡ text a)
       go false e′ s f = absurd (omega (arith, x .unread (not-readable k a e′) .number))
       go true e′ true f = absurd (omega (arith, x .short (readable k a e′) (ltb-true (length old) (length (text a)) f) .number))
       go true e′ false f =
           let r = readable k a e′ in
           let l = x .fits r (ltb-false (length old) (length (text a)) f) in
-          let front : take (countOf w) new ≡ text a = rw (l .count, l .buffer) (take-append-seam (text a) (drop (length (text a)) old)) in
-          rw (front, l .count) (read-back k a r)
+          (r, l .count, rw (l .count, l .buffer) (take-append-seam (text a) (drop (length (text a)) old)))
+
+  -- and it is read back whole
+  pub written-read-back : {new : List ℕ} {w : Written} → Writes p a (text a) old new w → numberOf w ≡ 0 → Ended p (take (countOf w) new) (recorded a (countOf w))
+  written-read-back x e = let t = written-text x e in rw (t .2, t .1) (read-back k a (t .0))
+
+-- "equal records give equal bytes", into whatever buffers they are written
+pub equal-bytes : {A : Type 0} {p : Reader A} {text : A → List ℕ} {given : A → Bool} (k : Spells p text given) (a b : A) {old old′ new new′ : List ℕ} {v w : Written}
+    → a ≡ b → Writes p a (text a) old new v → Writes p b (text b) old′ new′ w → numberOf v ≡ 0 → numberOf w ≡ 0 → take (countOf v) new ≡ take (countOf w) new′
+equal-bytes {text = text} k a b same x y e f = written-text k a x e .2 ∙ ap text same ∙ sym (written-text k b y f .2)
