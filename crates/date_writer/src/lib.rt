@@ -12,6 +12,7 @@ use types::Date;
 use writing::Measured;
 use writing::Written;
 use writing::last_digit;
+use writing::put_three;
 use writing::put_two;
 use writing::size;
 
@@ -87,7 +88,7 @@ fn put_four(out: &mut [u8], at: usize, n: u32) -> usize
     ensures { λ r. ⌜ Puts (padded 4 n) (now (out .entry)) at (now (out .exit)) r ⌝ }
 {
     let next = put_two(out, at, n / 100);
-    put_two(out, next, n)
+    put_two(out, next, n % 100)
 }
 
 fn put_year(out: &mut [u8], year: i32) -> usize
@@ -100,7 +101,8 @@ fn put_year(out: &mut [u8], year: i32) -> usize
     put_four(out, 0, size(year))
 }
 
-fn put_date(out: &mut [u8], d: Date) -> usize
+// Puts the date's spelling at the front.
+pub fn put_date(out: &mut [u8], d: Date) -> usize
     ensures { λ r. ⌜ Puts (dateSpelling d) (now (out .entry)) 0 (now (out .exit)) r ⌝ }
 {
     match d {
@@ -122,8 +124,7 @@ fn put_date(out: &mut [u8], d: Date) -> usize
         Date::Ordinal { year, day } => {
             let next = put_year(out, year);
             let next = put_byte(out, next, b'-');
-            let next = put_byte(out, next, last_digit(day / 100));
-            put_two(out, next, day)
+            put_three(out, next, day)
         }
     }
 }

@@ -1,16 +1,14 @@
 // The writer of date-times: the date, `T`, and the time in the part of the buffer that begins behind them.
 ghost use Prim.Native.Nat.{_≤_};
 ghost use mathlib.Core.Path.{_≡_};
-ghost use mathlib.Core.Bool.{true};
 ghost use lib.ListN.{length};
 ghost use Rattle.datetime.specs.Rules.{dateTime};
 ghost use Rattle.writing.specs.Spelling.{dateTimeSpelling};
 ghost use Rattle.writing.specs.Writing.{over, Measures, Writes};
-ghost use Rattle.datetime_writer.specs.Ranges.{dateTimeGiven};
 use date_writer::date_length;
-use date_writer::write_date;
+use date_writer::put_date;
+use time_writer::put_time;
 use time_writer::time_length;
-use time_writer::write_time;
 use types::DateTime;
 use writing::Measured;
 use writing::Written;
@@ -30,17 +28,17 @@ pub fn datetime_length(x: DateTime) -> Measured
     }
 }
 
-// Date and time have each their own writer; the time's is lent what lies behind the date and its `T`.
+// The time's writer is lent what lies behind the date and its `T`.
 fn put_datetime(buffer: &mut [u8], x: DateTime)
-    requires { ⌜ (dateTimeGiven x ≡ true) × (length (dateTimeSpelling x) ≤ length (now buffer)) ⌝ }
+    requires { ⌜ length (dateTimeSpelling x) ≤ length (now buffer) ⌝ }
     ensures { λ _. ⌜ now (buffer .exit) ≡ over (dateTimeSpelling x) (now (buffer .entry)) ⌝ }
 {
     let date = x.date;
     let time = x.time;
-    let n = write_date(date, buffer).count();
+    let n = put_date(buffer, date);
     buffer[n] = b'T';
     let from = n + 1;
-    write_time(time, &mut buffer[from..]);
+    put_time(&mut buffer[from..], time);
 }
 
 // Writes the date-time's spelling to the front of the buffer.

@@ -54,6 +54,10 @@ puts-sets (b ∷ t) l at h =
     let rest : at + 1 + length t ≤ length (set l at b) = simp length-set (omega arith) in
     rw (lt-ltb at (length l) room, puts-sets t (set l at b) (at + 1) rest) (simp (add-one, suc-add, add-suc))
 
+-- so what is stored byte by byte is put
+pub sets-puts : (t l : List ℕ) (at : ℕ) → at + length t ≤ length l → Puts t l at (sets l at t) (at + length t)
+sets-puts t l at h = record { put = sym (puts-sets t l at h) }
+
 pub puts-fits : {t old new : List ℕ} {at next : ℕ} → Puts t old at new next → at + length t ≤ length old
     → (next ≡ at + length t) × (new ≡ take at old ++ t ++ drop (at + length t) old)
 puts-fits {t} {old} {new} {at} {next} e h =

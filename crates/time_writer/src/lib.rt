@@ -15,6 +15,7 @@ use types::TimeOffset;
 use writing::Measured;
 use writing::Written;
 use writing::last_digit;
+use writing::put_three;
 use writing::put_two;
 
 // The digits of three that are left without trailing zeros; one at least.
@@ -72,7 +73,11 @@ fn put_fraction(out: &mut [u8], at: usize, nanosecond: u32) -> usize
         return at;
     }
     let next = put_byte(out, at, b'.');
-    put_digits(out, next, nanosecond, fraction_width(nanosecond))
+    let width = fraction_width(nanosecond);
+    if width == 3 {
+        return put_three(out, next, nanosecond / 1000000);
+    }
+    put_digits(out, next, nanosecond, width)
 }
 
 fn fraction_length(nanosecond: u32) -> usize
@@ -104,7 +109,8 @@ fn put_time_offset(out: &mut [u8], at: usize, o: TimeOffset) -> usize
     }
 }
 
-fn put_time(out: &mut [u8], t: Time) -> usize
+// Puts the time's spelling at the front.
+pub fn put_time(out: &mut [u8], t: Time) -> usize
     ensures { λ r. ⌜ Puts (timeSpelling t) (now (out .entry)) 0 (now (out .exit)) r ⌝ }
 {
     let next = put_clock(out, 0, t.hour, t.minute, t.second);

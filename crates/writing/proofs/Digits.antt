@@ -74,6 +74,14 @@ padded-split m (suc n) v =
     let over : v / 10 / 10 ^ n ≡ v / 10 ^ suc n = div-div-eq-div-mul v 10 (10 ^ n) ∙ rw (← pow-succ' 10 n) in
     rw (add-suc m n, padded-split m n (v / 10), over) (append-assoc (padded m (v / 10 ^ suc n)) (padded n (v / 10)) ((48 + v % 10) ∷ []))
 
+-- the last two are those of what is left of hundreds
+pub padded-hundred : (v : ℕ) → padded 2 (v % 100) ≡ padded 2 v
+unfolding padded
+padded-hundred v =
+    let tens : v % 100 / 10 % 10 ≡ v / 10 % 10 = omega arith in
+    let ones : v % 100 % 10 ≡ v % 10 = omega arith in
+    rw (tens, ones)
+
 -- in front of digits no other byte is read
 pub padded-refuses : (c n v : ℕ) (x : List ℕ) → isDigit c ≡ false → Refuses (lit c) (padded (suc n) v ++ x)
 padded-refuses c n v x e = go (padded (suc n) v) (padded-digits (suc n) v) (length-padded (suc n) v)

@@ -83,6 +83,10 @@ module _ {A : Type 0} {p : Reader A} {text : A → List ℕ} {given : A → Bool
 
 -- ---- the three answers
 
+-- what was put from the front on, with room for all of it
+pub put-front : {text old new : List ℕ} {next : ℕ} → Puts text old 0 new next → length text ≤ length old → (next ≡ length text) × (new ≡ over text old)
+put-front {text} q h = let e = puts-fits q (omega arith) in (e .0 ∙ zero-add (length text), rw (zero-add (length text)) at (e .1))
+
 module _ {A : Type 0} {p : Reader A} {a : A} {text : List ℕ} where
   pub unread-writes : {old : List ℕ} → (Readable p a → ⊥) → Writes p a text old old NoReader
   unread-writes h = record { unread = λ z. record { number = refl; count = refl; buffer = refl }; short = λ r. absurd (h r); fits = λ r. absurd (h r) }
@@ -97,9 +101,8 @@ module _ {A : Type 0} {p : Reader A} {a : A} {text : List ℕ} where
   pub fits-writes : {old new : List ℕ} {n : ℕ} → Readable p a → n ≡ length text → n ≤ length old → new ≡ over text old → Writes p a text old new (Text n)
   fits-writes r e h b = record { unread = λ z. absurd (z r); short = λ z l. absurd (omega arith); fits = λ z l. record { number = refl; count = e; buffer = b } }
 
-  -- what was put from the front on, with room for all of it
   pub put-writes : {old new : List ℕ} {n next : ℕ} → Readable p a → n ≡ length text → n ≤ length old → Puts text old 0 new next → Writes p a text old new (Text n)
-  put-writes r e h q = fits-writes r e h (rw (zero-add (length text)) at (puts-fits q (omega arith) .1))
+  put-writes r e h q = fits-writes r e h (put-front q (omega arith) .1)
 
 -- ---- the promise leaves nothing open
 

@@ -63,10 +63,28 @@ pub fn last_digit(n: u32) -> u8
     48 + ((n % 10) as u8)
 }
 
-// Puts a number's last two decimal digits.
+// Puts a number's last two decimal digits. With room for both, a number below 100 has them at one go.
 pub fn put_two(out: &mut [u8], at: usize, n: u32) -> usize
     ensures { λ r. ⌜ Puts (padded 2 n) (now (out .entry)) at (now (out .exit)) r ⌝ }
 {
+    if n < 100 {
+        if at < out.len() {
+            if 1 < out.len() - at {
+                let tens = n / 10;
+                out[at] = 48 + (tens as u8);
+                out[at + 1] = 48 + ((n - tens * 10) as u8);
+                return at + 2;
+            }
+        }
+    }
     let next = put_byte(out, at, last_digit(n / 10));
     put_byte(out, next, last_digit(n))
+}
+
+// Puts a number's last three decimal digits.
+pub fn put_three(out: &mut [u8], at: usize, n: u32) -> usize
+    ensures { λ r. ⌜ Puts (padded 3 n) (now (out .entry)) at (now (out .exit)) r ⌝ }
+{
+    let next = put_byte(out, at, last_digit(n / 100));
+    put_two(out, next, n % 100)
 }

@@ -5,7 +5,6 @@ use borrow.Author.Needs.{needs}
 use Rattle.text.proofs.Sizes.{read}
 use Rattle.text.proofs.Laws.{then-puts}
 use Rattle.writing.specs.Spelling.{padded, dateSpelling}
-use Rattle.writing.proofs.Digits.{padded-split}
 use Rattle.date_writer.proofs.put_date.Statement.{statement}
 use Rattle.date_writer.proofs.put_date.Tie as tie
 
@@ -38,16 +37,14 @@ returns-2 c =
     (then-puts (dash2 .put-byte5 .ensures) (rw (day .before .last-digit .ensures) at (day .put-byte6 .ensures))))
 
 returns-3 : tie.Need-returns-3
-unfolding dateSpelling padded
+unfolding dateSpelling
 returns-3 c =
-    let last = c .before .before in
-    let first = last .before .before .before .before in
-    let dash = first .before .before .before .before .before in
+    let day = c .before .before in
+    let dash = day .before .before .before .before in
     let year = dash .before .before .before .before in
     let v = year .before .before .before .d3 .given in
     let fits : SFits w32 (v .0 .0) = search needs in
-    rw (v .1, padded-split 1 2 (v .0 .1 .0))
-    (then-puts (rw (read fits) at (year .put-year3 .ensures)) (then-puts (dash .put-byte7 .ensures) (then-puts (rw (first .before .last-digit2 .ensures) at (first .put-byte8 .ensures)) (last .put-two4 .ensures))))
+    rw (v .1) (then-puts (rw (read fits) at (year .put-year3 .ensures)) (then-puts (dash .put-byte7 .ensures) (day .put-three .ensures)))
 
 pub put-date-spec : {M : Type 1} → statement M
 put-date-spec =
@@ -55,8 +52,7 @@ put-date-spec =
     (tie.spec
     (λ c. search needs) (λ c κs. search needs) (λ c κs. search needs) (λ c κs. search needs) (λ c κs. search needs) (λ c κs. search needs)
     (λ c. search needs) (λ c κs. search needs) (λ c κs. search needs) (λ c κs. search needs) (λ c κs. search needs) (λ c κs. search needs) (λ c κs. search needs) (λ c κs. search needs)
-    (λ c. search needs) (λ c κs. search needs) (λ c κs. search needs) (λ c κs. search needs) (λ c κs. search needs) (λ c κs. search needs)
-    (λ c. search needs)
+    (λ c. search needs) (λ c κs. search needs) (λ c κs. search needs) (λ c κs. search needs) (λ c. search needs)
     returns
     (λ c. search needs)
     returns-2

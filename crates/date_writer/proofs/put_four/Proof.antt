@@ -1,7 +1,7 @@
 -- Four digits are two and two.
 use borrow.Author.Needs.{needs}
 use Rattle.text.proofs.Laws.{then-puts}
-use Rattle.writing.proofs.Digits.{padded-split}
+use Rattle.writing.proofs.Digits.{padded-split, padded-hundred}
 use Rattle.date_writer.proofs.put_four.Statement.{statement}
 use Rattle.date_writer.proofs.put_four.Tie as tie
 
@@ -13,4 +13,5 @@ put-four-spec =
     (λ c.
     let last = c .before .before in
     let first = last .before .before .before .before in
-    rw (padded-split 2 2 (first .before .before .before .args .n)) (then-puts (first .put-two .ensures) (last .put-two2 .ensures))))
+    let n = first .before .before .before .args .n in
+    rw (padded-split 2 2 n) (then-puts (first .put-two .ensures) (rw (padded-hundred n) at (last .put-two2 .ensures)))))

@@ -15,7 +15,7 @@ put-datetime-requires : tie.Need-put-datetime-requires
 put-datetime-requires c κs =
     let room = c .before in
     let long = measured-long dateTime-spells (room .before .before .before .before .datetime-length .ensures) (room .before .before .count .given .1) in
-    (dateTime-spells .ranges _ (long .given), omega (arith, long .size, room .if1 .left))
+    omega (arith, long .size, room .if1 .left)
 
 returns-2 : tie.Need-returns-2
 returns-2 c =

@@ -13,9 +13,18 @@ returns c = rw (eq-eqb (c .before .before .args .nanosecond) 0 (c .if1 .taken)) 
 returns-2 : tie.Need-returns-2
 unfolding fractionSpelling
 returns-2 c =
+    let three = c .before .before in
+    let width = three .before .before .before in
+    let point = width .before .before .before in
+    let else = point .before .before in
+    rw (ne-eqb (else .before .before .args .nanosecond) 0 (else .if1 .left), width .fraction-width .ensures .digits, three .before .before .if2 .taken) (then-puts (point .put-byte .ensures) (three .put-three .ensures))
+
+returns-3 : tie.Need-returns-3
+unfolding fractionSpelling
+returns-3 c =
     let digits = c .before .before in
-    let width = digits .before in
-    let point = width .before .before .before .before in
+    let width = digits .before .before .before in
+    let point = width .before .before .before in
     let else = point .before .before in
     rw (ne-eqb (else .before .before .args .nanosecond) 0 (else .if1 .left), width .fraction-width .ensures .digits) (then-puts (point .put-byte .ensures) (digits .put-digits .ensures))
 
@@ -25,4 +34,6 @@ put-fraction-spec =
     (tie.spec
     returns
     (λ c κs. search needs) (λ c κs. search needs) (λ c κs. search needs) (λ c. search needs)
-    returns-2)
+    returns-2
+    (λ c κs. search needs) (λ c. search needs)
+    returns-3)
