@@ -1,5 +1,7 @@
 /* calls READER TEXT N: calls a reader N times on a text. With N = 0 it is called once, and what it answers is printed.
- * calls READER -TEXT N: the same, and each call is made of one on each beginning of the text, from no byte to all. */
+ * calls READER -TEXT N: the same, and each call is made of one on each beginning of the text, from no byte to all.
+ * calls WRITER TEXT N: reads the text once, and calls a writer N times on what was read. With N = 0 it is called once, and has to
+ * write that text. Exit status: 1 where it doesn't, 2 where the call can't be made. */
 #define _XOPEN_SOURCE 700
 #include <stdio.h>
 #include <stdlib.h>
@@ -9,6 +11,8 @@
 
 /* Every reader is called in one way, and leaves what it read in the slots. */
 typedef uint32_t reader(const uint8_t *text, size_t length, int64_t *slots, size_t room);
+/* So is every writer. It finds what was read from slot 2 on, and leaves the length of its text in slot 0. */
+typedef uint32_t writer(int64_t *slots, size_t room, uint8_t *text, size_t length);
 
 #define PEERS(X)                                                                                                       \
     X(original_date) X(original_time) X(original_offset) X(original_datetime) X(original_duration)                     \
@@ -19,11 +23,22 @@ typedef uint32_t reader(const uint8_t *text, size_t length, int64_t *slots, size
     X(tirozhbar_date) X(tirozhbar_time) X(tirozhbar_offset) X(tirozhbar_datetime) X(tirozhbar_duration)                \
     X(tirozhbar_parse_date) X(tirozhbar_parse_time) X(tirozhbar_parse_offset) X(tirozhbar_parse_datetime)              \
     X(tirozhbar_parse_duration)
+/* Each writer with the reader of what it writes, and the slot that this reader starts at: ours leaves two for its answer. */
+#define OUR_WRITERS(X)                                                                                                 \
+    X(tirozhbar_write_date, tirozhbar_date, 0) X(tirozhbar_write_time, tirozhbar_time, 0)                              \
+    X(tirozhbar_write_offset, tirozhbar_offset, 0) X(tirozhbar_write_datetime, tirozhbar_datetime, 0)                  \
+    X(tirozhbar_write_duration, tirozhbar_duration, 0)
+#define PEER_WRITERS(X)                                                                                                \
+    X(chrono_write_date, chrono_date, 2) X(chrono_write_time, chrono_time, 2) X(chrono_write_stamp, chrono_stamp, 2)   \
+    X(time_write_date, time_date, 2) X(time_write_time, time_time, 2) X(time_write_stamp, time_stamp, 2)               \
+    X(write_nothing, nothing, 2)
 
 #define DECLARE(NAME) reader NAME;
 PEERS(DECLARE)
 void peers_start(void);
 reader nothing;
+#define DECLARE_WRITER(NAME, READER, START) writer NAME;
+PEER_WRITERS(DECLARE_WRITER)
 
 /* glibc's strptime, at the one form that each of these names. */
 static uint32_t by_strptime(const char *form, const uint8_t *text, int64_t *slots) {
@@ -48,35 +63,65 @@ static const struct {
 } readers[] = {OURS(ROW) PEERS(ROW) ROW(nothing) ROW(strptime_date) ROW(strptime_basic) ROW(strptime_week)
                    ROW(strptime_ordinal) ROW(strptime_time) ROW(strptime_datetime)};
 
-int main(int argc, char **argv) {
-    reader *read = NULL;
-    for (size_t i = 0; argc == 4 && i < sizeof readers / sizeof *readers; i++)
-        if (!strcmp(argv[1], readers[i].name)) read = readers[i].reader;
-    if (!read) return 2;
-    peers_start();
-    int cut = argv[2][0] == '-';
-    const char *text = argv[2] + cut;
+#define WRITER_ROW(NAME, READER, START) {#NAME, NAME, READER, START},
+static const struct {
+    const char *name;
+    writer *writer;
+    reader *reader;
+    size_t start;
+} writers[] = {OUR_WRITERS(WRITER_ROW) PEER_WRITERS(WRITER_ROW)};
+
+enum { ROOM = 64 };
+static int64_t slots[ROOM];
+
+static int read_once(reader *read, const char *text) {
+    uint32_t number = read((const uint8_t *)text, strlen(text), slots, ROOM);
+    printf("%u:", number);
+    for (int i = 0; i < 13; i++) printf(" %lld", (long long)slots[i]);
+    puts("");
+    return 0;
+}
+
+/* The beginnings are made before the calls, each with a zero behind it for strptime. */
+static int read_beginnings(reader *read, const char *text, long n) {
     size_t length = strlen(text);
-    long n = atol(argv[3]);
-    static int64_t slots[64];
-    if (n == 0) {
-        uint32_t number = read((const uint8_t *)text, length, slots, 64);
-        printf("%u:", number);
-        for (int i = 0; i < 13; i++) printf(" %lld", (long long)slots[i]);
-        puts("");
-        return 0;
-    }
-    if (!cut) {
-        for (long i = 0; i < n; i++) read((const uint8_t *)text, length, slots, 64);
-        return 0;
-    }
-    /* The beginnings are made before the calls, each with a zero behind it for strptime. */
     char *beginnings = calloc(length + 1, length + 1);
     if (!beginnings) return 2;
     for (size_t k = 0; k <= length; k++) memcpy(beginnings + k * (length + 1), text, k);
     for (long i = 0; i < n; i++)
         for (size_t k = 0; k <= length; k++)
-            read((const uint8_t *)beginnings + k * (length + 1), k, slots, 64);
+            read((const uint8_t *)beginnings + k * (length + 1), k, slots, ROOM);
     free(beginnings);
     return 0;
+}
+
+static int read_text(reader *read, const char *text, long n) {
+    int cut = text[0] == '-';
+    size_t length = strlen(text);
+    if (n == 0) return read_once(read, text + cut);
+    if (cut) return read_beginnings(read, text + cut, n);
+    for (long i = 0; i < n; i++) read((const uint8_t *)text, length, slots, ROOM);
+    return 0;
+}
+
+static int write_text(writer *write, reader *read, size_t start, const char *text, long n) {
+    static uint8_t written[ROOM];
+    size_t length = strlen(text);
+    if (length > ROOM || read((const uint8_t *)text, length, slots + start, ROOM - start)) return 2;
+    if (n == 0)
+        return write(slots, ROOM, written, ROOM) || slots[0] != (int64_t)length || memcmp(written, text, length);
+    for (long i = 0; i < n; i++) write(slots, ROOM, written, ROOM);
+    return 0;
+}
+
+int main(int argc, char **argv) {
+    if (argc != 4) return 2;
+    peers_start();
+    long n = atol(argv[3]);
+    for (size_t i = 0; i < sizeof readers / sizeof *readers; i++)
+        if (!strcmp(argv[1], readers[i].name)) return read_text(readers[i].reader, argv[2], n);
+    for (size_t i = 0; i < sizeof writers / sizeof *writers; i++)
+        if (!strcmp(argv[1], writers[i].name))
+            return write_text(writers[i].writer, writers[i].reader, writers[i].start, argv[2], n);
+    return 2;
 }

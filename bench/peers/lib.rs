@@ -1,7 +1,12 @@
-//! The original and its peers, for C to call. Each leaves its own record in the slots, as it stands, and returns 0; or 1, a refusal.
-use chrono::{DateTime, NaiveDate, NaiveDateTime, NaiveTime};
+//! The original and its peers, for C to call. A reader leaves its own record in the slots, as it stands, and returns 0; or 1, a refusal.
+//! A writer finds such a record from slot 2 on, writes its text and leaves the text's length in slot 0.
+use chrono::{DateTime, FixedOffset, NaiveDate, NaiveDateTime, NaiveTime};
+use std::fmt::{self, Write as _};
+use std::io;
+use std::slice::{from_raw_parts_mut, IterMut};
 use std::sync::OnceLock;
 use time::format_description::{parse, well_known::Rfc3339, FormatItem};
+use time::macros::format_description;
 use time::{Date, OffsetDateTime, PrimitiveDateTime, Time, UtcOffset};
 use winnow_datetime::winnow::error::EmptyError;
 
@@ -96,3 +101,76 @@ by_format!(time_time, Time, 4);
 by_format!(time_offset, UtcOffset, 5);
 by_format!(time_datetime, PrimitiveDateTime, 6);
 reader!(time_stamp, |bytes| OffsetDateTime::parse(ascii(bytes), &Rfc3339).ok());
+
+// Where writers write: the bytes that are left. The pieces of a text are of one byte to four, for which a loop takes fewer
+// instructions than `memcpy`. They are ASCII here, too.
+struct Rest<'a>(IterMut<'a, u8>);
+
+impl Rest<'_> {
+    fn put(&mut self, bytes: &[u8]) -> Option<()> {
+        for byte in bytes {
+            *self.0.next()? = *byte;
+        }
+        Some(())
+    }
+}
+
+impl fmt::Write for Rest<'_> {
+    fn write_str(&mut self, text: &str) -> fmt::Result {
+        self.put(text.as_bytes()).ok_or(fmt::Error)
+    }
+    fn write_char(&mut self, character: char) -> fmt::Result {
+        self.put(&[character as u8]).ok_or(fmt::Error)
+    }
+}
+
+impl io::Write for Rest<'_> {
+    fn write(&mut self, bytes: &[u8]) -> io::Result<usize> {
+        self.write_all(bytes).map(|()| bytes.len())
+    }
+    fn write_all(&mut self, bytes: &[u8]) -> io::Result<()> {
+        self.put(bytes).ok_or(io::ErrorKind::WriteZero.into())
+    }
+    fn flush(&mut self) -> io::Result<()> {
+        Ok(())
+    }
+}
+
+macro_rules! writer {
+    ($name:ident, $kind:ty, |$record:ident, $rest:ident| $write:expr) => {
+        /// # Safety
+        /// A record of this kind stands from slot 2 on, and `text` has room for `length` bytes.
+        #[no_mangle]
+        pub unsafe extern "C" fn $name(
+            slots: *mut i64,
+            _room: usize,
+            text: *mut u8,
+            length: usize,
+        ) -> u32 {
+            let $record = &*slots.add(2).cast::<$kind>();
+            let mut $rest = Rest(from_raw_parts_mut(text, length).iter_mut());
+            if $write.is_err() {
+                return 1;
+            }
+            *slots = (length - $rest.0.len()) as i64;
+            0
+        }
+    };
+}
+
+// Of each library's ways to write these bytes, the one that takes the fewest instructions and allocates nothing.
+//
+// chrono: `Debug`, which `Display` of a date and of a time goes to. A format, its items at hand or not, allocates, and takes several
+// times as many; so does `to_rfc3339_opts`. `to_rfc3339` allocates, too, and takes about as many.
+writer!(chrono_write_date, NaiveDate, |date, rest| write!(rest, "{date:?}"));
+writer!(chrono_write_time, NaiveTime, |time, rest| write!(rest, "{time:?}"));
+writer!(chrono_write_stamp, DateTime<FixedOffset>, |stamp, rest| write!(rest, "{stamp:?}"));
+
+// time: formats that the compiler sees, with three digits, and for a stamp the library's own for RFC 3339. The same formats parsed at
+// the start take more, and so do a fraction of any length, `Display`, and a format in the place of RFC 3339's.
+const DATE: &[FormatItem<'static>] = format_description!("[year]-[month]-[day]");
+const TIME: &[FormatItem<'static>] =
+    format_description!("[hour]:[minute]:[second].[subsecond digits:3]");
+writer!(time_write_date, Date, |date, rest| date.format_into(&mut rest, DATE));
+writer!(time_write_time, Time, |time, rest| time.format_into(&mut rest, TIME));
+writer!(time_write_stamp, OffsetDateTime, |stamp, rest| stamp.format_into(&mut rest, &Rfc3339));

@@ -1,4 +1,4 @@
-/* tirozhbar.h: ISO 8601 offsets, times, dates, date-times and durations, read from bytes.
+/* tirozhbar.h: ISO 8601 offsets, times, dates, date-times and durations, read from bytes and written to them.
  *
  * Link with libexports.a, which `rt staticlib exports` writes. The code is proved to do what is said here on every input: it reads the
  * LENGTH bytes at TEXT and writes at most the slots that its kind has. It keeps no state and calls nothing.
@@ -19,6 +19,16 @@
  *
  * The record stands from slot 2 on. After anything but 0 the slots from 2 on are left as they were, and so always are the slots past
  * the kind's number.
+ *
+ * A writer takes the record from slot 2 on, where a reader leaves it; it does not look at slot 1. It puts the record's one spelling at the front of the
+ * LENGTH bytes at TEXT, the text's length into slot 0, and returns a number:
+ *
+ *     TIROZHBAR_RECORD     0  written
+ *     TIROZHBAR_NO_READER  4  no reader leaves such slots; slot 0 is 0
+ *     TIROZHBAR_TOO_SHORT  5  LENGTH is below the text's length; slot 0 is 0
+ *     TIROZHBAR_TOO_FEW  255  ROOM is below the kind's number of slots; no slot was written
+ *
+ * After anything but 0 all bytes at TEXT are as they were, and the bytes behind the text always are. No 0 byte is put behind it.
  */
 #ifndef TIROZHBAR_H
 #define TIROZHBAR_H
@@ -35,6 +45,8 @@ enum {
     TIROZHBAR_NO_FORM = 1,
     TIROZHBAR_TOO_BIG = 2,
     TIROZHBAR_LEFT_OVER = 3,
+    TIROZHBAR_NO_READER = 4,
+    TIROZHBAR_TOO_SHORT = 5,
     TIROZHBAR_TOO_FEW = 255
 };
 
@@ -121,6 +133,26 @@ uint32_t tirozhbar_parse_datetime(const uint8_t *text, size_t length, int64_t *s
 uint32_t tirozhbar_duration(const uint8_t *text, size_t length, int64_t *slots, size_t room);
 /* A text that is one duration from its first byte to its last. 9 slots. */
 uint32_t tirozhbar_parse_duration(const uint8_t *text, size_t length, int64_t *slots, size_t room);
+
+/* The longest spelling of each kind, in bytes. */
+enum {
+    TIROZHBAR_OFFSET_LONGEST = 6,
+    TIROZHBAR_TIME_LONGEST = 24,
+    TIROZHBAR_DATE_LONGEST = 11,
+    TIROZHBAR_DATETIME_LONGEST = 36,
+    TIROZHBAR_DURATION_LONGEST = 79
+};
+
+/* Z, or a sign and HH:MM. 4 slots. */
+uint32_t tirozhbar_write_offset(int64_t *slots, size_t room, uint8_t *text, size_t length);
+/* HH:MM:SS, a point and the fraction without trailing zeros if it is not 0, then nothing or the offset. 9 slots. */
+uint32_t tirozhbar_write_time(int64_t *slots, size_t room, uint8_t *text, size_t length);
+/* YYYY-MM-DD, YYYY-Www-D or YYYY-DDD by the form, with - in front of a negative year. 6 slots. */
+uint32_t tirozhbar_write_date(int64_t *slots, size_t room, uint8_t *text, size_t length);
+/* The date, T and the time. 13 slots. */
+uint32_t tirozhbar_write_datetime(int64_t *slots, size_t room, uint8_t *text, size_t length);
+/* The parts that are not 0, with T before time parts; PT0S where all are 0. 9 slots. */
+uint32_t tirozhbar_write_duration(int64_t *slots, size_t room, uint8_t *text, size_t length);
 
 #ifdef __cplusplus
 }

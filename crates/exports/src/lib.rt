@@ -1,38 +1,22 @@
-// The readers for C: each takes the bytes and an array of slots, fills the slots and returns the paper's number. The layout of the
-// slots stands in slots' specs/Slots.antt and, for C, in tirozhbar.h.
+// The readers and writers for C. A reader takes the bytes and an array of slots, fills the slots and returns the paper's number. A writer
+// takes the record from slots as a reader fills them, puts its text into a buffer and returns the paper's number. The layout of the slots
+// stands in slots' specs/Slots.antt and, for C, in tirozhbar.h.
 ghost use Rattle.offset.specs.Rules.{offset};
 ghost use Rattle.time.specs.Rules.{time};
 ghost use Rattle.date.specs.Rules.{date};
 ghost use Rattle.datetime.specs.Rules.{dateTime};
 ghost use Rattle.duration.specs.Rules.{duration};
 ghost use Rattle.slots.specs.Slots.{offsetSlots, timeSlots, dateSlots, dateTimeSlots, durationSlots};
-ghost use Rattle.exports.specs.Promises.{BeginsIn, EndsIn};
-use dates::DateAnswer;
-use datetimes::DateTimeAnswer;
-use durations::DurationAnswer;
-use offsets::OffsetAnswer;
-use slots::TOO_FEW;
-use times::TimeAnswer;
-
-// The verdict slot of a whole reader, which gives none.
-const NO_VERDICT: i64 = -1;
+ghost use Rattle.slot_readers.specs.Promises.{BeginsIn, EndsIn};
+ghost use Rattle.writing.specs.Spelling.{offsetSpelling, timeSpelling, dateSpelling, dateTimeSpelling, durationSpelling};
+ghost use Rattle.slot_writers.specs.Promise.{WritesFrom};
 
 // Reads the offset that the bytes begin with.
 #[no_mangle]
 pub extern "C" fn tirozhbar_offset(s: &[u8], slots: &mut [i64]) -> u32
     ensures { λ r. ⌜ BeginsIn 4 3 offset offsetSlots (now (s .entry)) (now (slots .entry)) (now (slots .exit)) r ⌝ }
 {
-    if slots.len() < 4 {
-        return TOO_FEW;
-    }
-    let read = offsets::offset(s);
-    let judged = read.verdict;
-    let verdict = slots::verdict_slot(judged);
-    let answer = read.answer;
-    match answer {
-        OffsetAnswer::Record { value, count } => slots::put_offset(slots, count, verdict, value),
-        OffsetAnswer::Refused { why, count } => slots::put_refusal(slots, count, verdict, why),
-    }
+    slot_readers::offset(s, slots)
 }
 
 // Reads bytes that are one offset from the first to the last.
@@ -40,14 +24,7 @@ pub extern "C" fn tirozhbar_offset(s: &[u8], slots: &mut [i64]) -> u32
 pub extern "C" fn tirozhbar_parse_offset(s: &[u8], slots: &mut [i64]) -> u32
     ensures { λ r. ⌜ EndsIn 4 offset offsetSlots (now (s .entry)) (now (slots .entry)) (now (slots .exit)) r ⌝ }
 {
-    if slots.len() < 4 {
-        return TOO_FEW;
-    }
-    let answer = offsets::parse_offset(s);
-    match answer {
-        OffsetAnswer::Record { value, count } => slots::put_offset(slots, count, NO_VERDICT, value),
-        OffsetAnswer::Refused { why, count } => slots::put_refusal(slots, count, NO_VERDICT, why),
-    }
+    slot_readers::parse_offset(s, slots)
 }
 
 // Reads the time that the bytes begin with.
@@ -55,17 +32,7 @@ pub extern "C" fn tirozhbar_parse_offset(s: &[u8], slots: &mut [i64]) -> u32
 pub extern "C" fn tirozhbar_time(s: &[u8], slots: &mut [i64]) -> u32
     ensures { λ r. ⌜ BeginsIn 9 3 time timeSlots (now (s .entry)) (now (slots .entry)) (now (slots .exit)) r ⌝ }
 {
-    if slots.len() < 9 {
-        return TOO_FEW;
-    }
-    let read = times::time(s);
-    let judged = read.verdict;
-    let verdict = slots::verdict_slot(judged);
-    let answer = read.answer;
-    match answer {
-        TimeAnswer::Record { value, count } => slots::put_time(slots, count, verdict, value),
-        TimeAnswer::Refused { why, count } => slots::put_refusal(slots, count, verdict, why),
-    }
+    slot_readers::time(s, slots)
 }
 
 // Reads bytes that are one time from the first to the last.
@@ -73,14 +40,7 @@ pub extern "C" fn tirozhbar_time(s: &[u8], slots: &mut [i64]) -> u32
 pub extern "C" fn tirozhbar_parse_time(s: &[u8], slots: &mut [i64]) -> u32
     ensures { λ r. ⌜ EndsIn 9 time timeSlots (now (s .entry)) (now (slots .entry)) (now (slots .exit)) r ⌝ }
 {
-    if slots.len() < 9 {
-        return TOO_FEW;
-    }
-    let answer = times::parse_time(s);
-    match answer {
-        TimeAnswer::Record { value, count } => slots::put_time(slots, count, NO_VERDICT, value),
-        TimeAnswer::Refused { why, count } => slots::put_refusal(slots, count, NO_VERDICT, why),
-    }
+    slot_readers::parse_time(s, slots)
 }
 
 // Reads the date that the bytes begin with.
@@ -88,17 +48,7 @@ pub extern "C" fn tirozhbar_parse_time(s: &[u8], slots: &mut [i64]) -> u32
 pub extern "C" fn tirozhbar_date(s: &[u8], slots: &mut [i64]) -> u32
     ensures { λ r. ⌜ BeginsIn 6 7 date dateSlots (now (s .entry)) (now (slots .entry)) (now (slots .exit)) r ⌝ }
 {
-    if slots.len() < 6 {
-        return TOO_FEW;
-    }
-    let read = dates::date(s);
-    let judged = read.verdict;
-    let verdict = slots::verdict_slot(judged);
-    let answer = read.answer;
-    match answer {
-        DateAnswer::Record { value, count } => slots::put_date(slots, count, verdict, value),
-        DateAnswer::Refused { why, count } => slots::put_refusal(slots, count, verdict, why),
-    }
+    slot_readers::date(s, slots)
 }
 
 // Reads bytes that are one date from the first to the last.
@@ -106,14 +56,7 @@ pub extern "C" fn tirozhbar_date(s: &[u8], slots: &mut [i64]) -> u32
 pub extern "C" fn tirozhbar_parse_date(s: &[u8], slots: &mut [i64]) -> u32
     ensures { λ r. ⌜ EndsIn 6 date dateSlots (now (s .entry)) (now (slots .entry)) (now (slots .exit)) r ⌝ }
 {
-    if slots.len() < 6 {
-        return TOO_FEW;
-    }
-    let answer = dates::parse_date(s);
-    match answer {
-        DateAnswer::Record { value, count } => slots::put_date(slots, count, NO_VERDICT, value),
-        DateAnswer::Refused { why, count } => slots::put_refusal(slots, count, NO_VERDICT, why),
-    }
+    slot_readers::parse_date(s, slots)
 }
 
 // Reads the date-time that the bytes begin with.
@@ -121,22 +64,7 @@ pub extern "C" fn tirozhbar_parse_date(s: &[u8], slots: &mut [i64]) -> u32
 pub extern "C" fn tirozhbar_datetime(s: &[u8], slots: &mut [i64]) -> u32
     ensures { λ r. ⌜ BeginsIn 13 10 dateTime dateTimeSlots (now (s .entry)) (now (slots .entry)) (now (slots .exit)) r ⌝ }
 {
-    if slots.len() < 13 {
-        return TOO_FEW;
-    }
-    let read = datetimes::datetime(s);
-    let judged = read.verdict;
-    let verdict = slots::verdict_slot(judged);
-    let answer = read.answer;
-    match answer {
-        DateTimeAnswer::Record { value, count } => slots::put_datetime(
-            slots,
-            count,
-            verdict,
-            value,
-        ),
-        DateTimeAnswer::Refused { why, count } => slots::put_refusal(slots, count, verdict, why),
-    }
+    slot_readers::datetime(s, slots)
 }
 
 // Reads bytes that are one date-time from the first to the last.
@@ -144,19 +72,7 @@ pub extern "C" fn tirozhbar_datetime(s: &[u8], slots: &mut [i64]) -> u32
 pub extern "C" fn tirozhbar_parse_datetime(s: &[u8], slots: &mut [i64]) -> u32
     ensures { λ r. ⌜ EndsIn 13 dateTime dateTimeSlots (now (s .entry)) (now (slots .entry)) (now (slots .exit)) r ⌝ }
 {
-    if slots.len() < 13 {
-        return TOO_FEW;
-    }
-    let answer = datetimes::parse_datetime(s);
-    match answer {
-        DateTimeAnswer::Record { value, count } => slots::put_datetime(
-            slots,
-            count,
-            NO_VERDICT,
-            value,
-        ),
-        DateTimeAnswer::Refused { why, count } => slots::put_refusal(slots, count, NO_VERDICT, why),
-    }
+    slot_readers::parse_datetime(s, slots)
 }
 
 // Reads the duration that the bytes begin with.
@@ -164,22 +80,7 @@ pub extern "C" fn tirozhbar_parse_datetime(s: &[u8], slots: &mut [i64]) -> u32
 pub extern "C" fn tirozhbar_duration(s: &[u8], slots: &mut [i64]) -> u32
     ensures { λ r. ⌜ BeginsIn 9 3 duration durationSlots (now (s .entry)) (now (slots .entry)) (now (slots .exit)) r ⌝ }
 {
-    if slots.len() < 9 {
-        return TOO_FEW;
-    }
-    let read = durations::duration(s);
-    let judged = read.verdict;
-    let verdict = slots::verdict_slot(judged);
-    let answer = read.answer;
-    match answer {
-        DurationAnswer::Record { value, count } => slots::put_duration(
-            slots,
-            count,
-            verdict,
-            value,
-        ),
-        DurationAnswer::Refused { why, count } => slots::put_refusal(slots, count, verdict, why),
-    }
+    slot_readers::duration(s, slots)
 }
 
 // Reads bytes that are one duration from the first to the last.
@@ -187,17 +88,45 @@ pub extern "C" fn tirozhbar_duration(s: &[u8], slots: &mut [i64]) -> u32
 pub extern "C" fn tirozhbar_parse_duration(s: &[u8], slots: &mut [i64]) -> u32
     ensures { λ r. ⌜ EndsIn 9 duration durationSlots (now (s .entry)) (now (slots .entry)) (now (slots .exit)) r ⌝ }
 {
-    if slots.len() < 9 {
-        return TOO_FEW;
-    }
-    let answer = durations::parse_duration(s);
-    match answer {
-        DurationAnswer::Record { value, count } => slots::put_duration(
-            slots,
-            count,
-            NO_VERDICT,
-            value,
-        ),
-        DurationAnswer::Refused { why, count } => slots::put_refusal(slots, count, NO_VERDICT, why),
-    }
+    slot_readers::parse_duration(s, slots)
+}
+
+// Writes the offset that the slots hold.
+#[no_mangle]
+pub extern "C" fn tirozhbar_write_offset(slots: &mut [i64], text: &mut [u8]) -> u32
+    ensures { λ r. ⌜ WritesFrom 4 offset offsetSlots offsetSpelling (now (slots .entry)) (now (slots .exit)) (now (text .entry)) (now (text .exit)) r ⌝ }
+{
+    slot_writers::write_offset(slots, text)
+}
+
+// Writes the time that the slots hold.
+#[no_mangle]
+pub extern "C" fn tirozhbar_write_time(slots: &mut [i64], text: &mut [u8]) -> u32
+    ensures { λ r. ⌜ WritesFrom 9 time timeSlots timeSpelling (now (slots .entry)) (now (slots .exit)) (now (text .entry)) (now (text .exit)) r ⌝ }
+{
+    slot_writers::write_time(slots, text)
+}
+
+// Writes the date that the slots hold.
+#[no_mangle]
+pub extern "C" fn tirozhbar_write_date(slots: &mut [i64], text: &mut [u8]) -> u32
+    ensures { λ r. ⌜ WritesFrom 6 date dateSlots dateSpelling (now (slots .entry)) (now (slots .exit)) (now (text .entry)) (now (text .exit)) r ⌝ }
+{
+    slot_writers::write_date(slots, text)
+}
+
+// Writes the date-time that the slots hold.
+#[no_mangle]
+pub extern "C" fn tirozhbar_write_datetime(slots: &mut [i64], text: &mut [u8]) -> u32
+    ensures { λ r. ⌜ WritesFrom 13 dateTime dateTimeSlots dateTimeSpelling (now (slots .entry)) (now (slots .exit)) (now (text .entry)) (now (text .exit)) r ⌝ }
+{
+    slot_writers::write_datetime(slots, text)
+}
+
+// Writes the duration that the slots hold.
+#[no_mangle]
+pub extern "C" fn tirozhbar_write_duration(slots: &mut [i64], text: &mut [u8]) -> u32
+    ensures { λ r. ⌜ WritesFrom 9 duration durationSlots durationSpelling (now (slots .entry)) (now (slots .exit)) (now (text .entry)) (now (text .exit)) r ⌝ }
+{
+    slot_writers::write_duration(slots, text)
 }

@@ -1,0 +1,178 @@
+// The record that slots hold, as a reader fills them. Of numbers that no reader fills in, a record is made that no reader gives.
+ghost use mathlib.Core.Path.{_≡_};
+ghost use mathlib.Core.List.{_∷_, []};
+ghost use Rattle.parser.specs.Reading.{and};
+ghost use Rattle.slots.specs.Slots.{offsetSlots, timeOffsetSlots, timeSlots, dateSlots};
+ghost use Rattle.offset_writer.specs.Ranges.{offsetGiven};
+ghost use Rattle.time_writer.specs.Ranges.{timeOffsetGiven, timeGiven};
+ghost use Rattle.date_writer.specs.Ranges.{dateGiven};
+ghost use Rattle.held.specs.Held.{Natural, isNatural, naturals, Integer, Made, DurationMade};
+use types::Date;
+use types::Duration;
+use types::Offset;
+use types::Time;
+use types::TimeOffset;
+
+// A duration; or that the slots hold none.
+pub enum HeldDuration {
+    Held(Duration),
+    Nothing,
+}
+
+// A slot's number in 32 bits: without a sign, and with one. What does not fit becomes a number that is in no offset, time or date.
+fn natural(n: i64) -> u32
+    ensures { λ r. ⌜ Natural n r ⌝ }
+{
+    if n < 0 {
+        return 4294967295;
+    }
+    if 4294967295 < n {
+        return 4294967295;
+    }
+    n as u32
+}
+
+fn integer(n: i64) -> i32
+    ensures { λ r. ⌜ Integer n r ⌝ }
+{
+    if n < -2147483647 {
+        return 2147483647;
+    }
+    if 2147483647 < n {
+        return 2147483647;
+    }
+    n as i32
+}
+
+pub fn offset_of(hours: i64, minutes: i64) -> Offset
+    ensures { λ r. ⌜ Made offsetGiven offsetSlots (hours ∷ minutes ∷ []) r ⌝ }
+{
+    Offset {
+        hours: integer(hours),
+        minutes: integer(minutes),
+    }
+}
+
+// Absent is 0 and two zeros. No reader gives an offset of 24 hours.
+fn time_offset_of(given: i64, hours: i64, minutes: i64) -> TimeOffset
+    ensures { λ r. ⌜ Made timeOffsetGiven timeOffsetSlots (given ∷ hours ∷ minutes ∷ []) r ⌝ }
+{
+    if given == 1 {
+        return TimeOffset::Given(offset_of(hours, minutes));
+    }
+    if given == 0 {
+        if hours == 0 {
+            if minutes == 0 {
+                return TimeOffset::Absent;
+            }
+        }
+    }
+    TimeOffset::Given(Offset {
+        hours: 24,
+        minutes: 0,
+    })
+}
+
+pub fn time_of(
+    hour: i64,
+    minute: i64,
+    second: i64,
+    nanosecond: i64,
+    given: i64,
+    hours: i64,
+    minutes: i64,
+) -> Time
+    ensures { λ r. ⌜ Made timeGiven timeSlots (hour ∷ minute ∷ second ∷ nanosecond ∷ given ∷ hours ∷ minutes ∷ []) r ⌝ }
+{
+    Time {
+        hour: natural(hour),
+        minute: natural(minute),
+        second: natural(second),
+        nanosecond: natural(nanosecond),
+        offset: time_offset_of(given, hours, minutes),
+    }
+}
+
+// An ordinal date has no month: its slot is 0. No reader gives a day 0.
+pub fn date_of(form: i64, year: i64, part: i64, day: i64) -> Date
+    ensures { λ r. ⌜ Made dateGiven dateSlots (form ∷ year ∷ part ∷ day ∷ []) r ⌝ }
+{
+    if form == 0 {
+        return Date::YMD {
+            year: integer(year),
+            month: natural(part),
+            day: natural(day),
+        };
+    }
+    if form == 1 {
+        return Date::Week {
+            year: integer(year),
+            week: natural(part),
+            day: natural(day),
+        };
+    }
+    if form == 2 {
+        if part == 0 {
+            return Date::Ordinal {
+                year: integer(year),
+                day: natural(day),
+            };
+        }
+    }
+    Date::Ordinal { year: 0, day: 0 }
+}
+
+fn is_natural(n: i64) -> bool
+    ensures { λ r. ⌜ r ≡ isNatural n ⌝ }
+{
+    if n < 0 {
+        return false;
+    }
+    n <= 4294967295
+}
+
+fn both(a: bool, b: bool) -> bool
+    ensures { λ r. ⌜ r ≡ and a b ⌝ }
+{
+    if a { b } else { false }
+}
+
+// Whether seven numbers all fit 32 bits without a sign.
+fn are_natural(a: i64, b: i64, c: i64, d: i64, e: i64, f: i64, g: i64) -> bool
+    ensures { λ r. ⌜ r ≡ naturals (a ∷ b ∷ c ∷ d ∷ e ∷ f ∷ g ∷ []) ⌝ }
+{
+    let last = both(is_natural(e), both(is_natural(f), is_natural(g)));
+    both(
+        is_natural(a),
+        both(
+            is_natural(b),
+            both(is_natural(c), both(is_natural(d), last)),
+        ),
+    )
+}
+
+// Some reader gives every duration, so there is no other to make of a number that does not fit.
+pub fn duration_of(
+    years: i64,
+    months: i64,
+    weeks: i64,
+    days: i64,
+    hours: i64,
+    minutes: i64,
+    seconds: i64,
+) -> HeldDuration
+    ensures { λ r. ⌜ DurationMade (years ∷ months ∷ weeks ∷ days ∷ hours ∷ minutes ∷ seconds ∷ []) r ⌝ }
+{
+    if are_natural(years, months, weeks, days, hours, minutes, seconds) {
+        return HeldDuration::Held(Duration {
+            years: natural(years),
+            months: natural(months),
+            weeks: natural(weeks),
+            days: natural(days),
+            hours: natural(hours),
+            minutes: natural(minutes),
+            seconds: natural(seconds),
+        });
+    }
+    HeldDuration::Nothing
+}

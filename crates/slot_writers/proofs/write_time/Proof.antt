@@ -1,0 +1,47 @@
+-- The time that the slots hold is written, and told.
+use mathlib.Core.Path.{refl}
+use native.Mathlib.Omega.{arith}
+use borrow.Author.Needs.{needs}
+use lib.Dec.{lit<}
+use Rattle.slots.proofs.Laws.{time-length}
+use Rattle.time_writer.proofs.Laws.{time-spells}
+use Rattle.held.proofs.Made.{made-of}
+use Rattle.slot_writers.proofs.Laws.{count-within, slot, few, wrote}
+use Rattle.slot_writers.proofs.write_time.Statement.{statement}
+use Rattle.slot_writers.proofs.write_time.Tie as tie
+
+tell-requires : tie.Need-tell-requires
+tell-requires c κs = omega (arith, count-within time-spells (c .before .before .before .write-time .ensures))
+
+returns-2 : tie.Need-returns-2
+returns-2 c =
+    let written = c .before .before .before .before .before in
+    let made = written .before .before in
+    let minutes = made .before in
+    let hours = minutes .before in
+    let given = hours .before in
+    let nanosecond = given .before in
+    let second = nanosecond .before in
+    let minute = second .before in
+    let hour = minute .before in
+    let l = hour .before .before .before .args .slots .now in
+    let room = hour .before .if1 .left in
+    let held =
+    (slot l room 2 6 (lit< tt) (hour .time-of-arg .given)
+    (slot l room 3 5 (lit< tt) (minute .time-of-arg2 .given)
+    (slot l room 4 4 (lit< tt) (second .time-of-arg3 .given)
+    (slot l room 5 3 (lit< tt) (nanosecond .time-of-arg4 .given)
+    (slot l room 6 2 (lit< tt) (given .time-of-arg5 .given)
+    (slot l room 7 1 (lit< tt) (hours .time-of-arg6 .given)
+    (slot l room 8 0 (lit< tt) (minutes .time-of-arg7 .given) refl))))))) in
+    wrote time-spells time-length room (made-of held (made .time-of .ensures)) (written .write-time .ensures) (c .before .tell .ensures)
+
+pub write-time-spec : {M : Type 1} → statement M
+write-time-spec =
+    tie.close
+    (tie.spec
+    (λ c. few (c .if1 .taken))
+    (λ c. search needs) (λ c. search needs) (λ c. search needs) (λ c. search needs) (λ c. search needs) (λ c. search needs) (λ c. search needs) (λ c κs. search needs) (λ c κs. search needs)
+    tell-requires
+    (λ c. search needs) (λ c. search needs)
+    returns-2)
