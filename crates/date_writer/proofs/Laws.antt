@@ -1,29 +1,26 @@
 -- Dates are read back from their spelling, whatever follows: the dash decides between the alternatives, and then `W`, or how many digits stand
 -- behind it.
-use Prim.Native.Nat.{ℕ, suc, _+_, _/_, _%_, _≤_, _<_}
+use Prim.Native.Nat.{ℕ, suc, _+_, _≤_}
 use mathlib.Core.List.{List, [], _∷_, _++_, append-assoc}
-use mathlib.Core.Bool.{Bool, true, false}
+use mathlib.Core.Bool.{true}
 use mathlib.Core.Option.{Option, some, none}
-use mathlib.Core.Path.{_≡_, refl, sym, ap, _∙_}
+use mathlib.Core.Path.{_≡_, refl}
 use native.Mathlib.Omega.{arith}
-use borrow.Author.Tests.{le-leb, leb-true, ne-eqb}
-use lib.Dec.{leb, eqb}
-use lib.IntN.{ℤ, pos, negsuc, natAbs}
-use lib.ListN.{length}
+use borrow.Author.Tests.{le-leb, leb-true}
+use lib.Dec.{leb}
+use lib.IntN.{ℤ, pos, negsuc}
 use Rattle.types.specs.declared.Date.{Date}
 use Rattle.types.specs.declared.Date.the-variants.{YMD, Week, Ordinal}
-use Rattle.types.specs.Sums.{withSign}
-use Rattle.parser.specs.Reading.{Reader, lit, seq, opt, alt, and, within}
+use Rattle.parser.specs.Reading.{lit, opt, and, within}
 use Rattle.parser.specs.Digits.{field}
 use Rattle.parser.specs.Fields.{month, day, signed, precededBy}
 use Rattle.parser.proofs.Fields.{and-first, and-second}
 use Rattle.parser.proofs.Leaves.{From}
-use Rattle.parser.proofs.Alike.{Alike}
-use Rattle.date.specs.Rules.{minus, digitsOfYear, year, orFirst, oneToSeven, weekOfYear, week, dayOfWeek, weekAndDay, wd, ywd, mdNumeric, ymdNumeric, dayOfYear, ordinal, ddd, yddd, dayOfMonth, monthAndDay, md, ymd, date}
+use Rattle.date.specs.Rules.{minus, year, orFirst, oneToSeven, week, dayOfWeek, weekAndDay, wd, mdNumeric, ordinal, ddd, dayOfMonth, monthAndDay, date}
 use Rattle.date.specs.Answer.{afterYear}
 use Rattle.date.proofs.Laws.{date-alike}
 use Rattle.writing.specs.Spelling.{padded, yearSpelling, dateSpelling}
-use Rattle.writing.proofs.Texts.{ReadAs, Refuses, lit-reads, lit-refuses, seq-reads, seq-refuses, seq-refuses-behind, map-reads, map-refuses, verify-reads, opt-reads, opt-lacks, alt-first, alt-second, alt-refuses, alike-reads, whole}
+use Rattle.writing.proofs.Texts.{ReadAs, Refuses, lit-reads, seq-reads, seq-refuses, seq-refuses-behind, map-reads, map-refuses, verify-reads, opt-reads, opt-lacks, alt-first, alt-second, alt-refuses, alike-reads, whole}
 use Rattle.writing.proofs.Digits.{none, natAbs-signed, padded-refuses, padded-digits, length-padded, field-reads, field-refuses}
 use Rattle.writing.proofs.Yields.{Yields, OrLeftOut, seq-yields, map-yields, opt-yields, alt-yields, verify-yields, preceded-yields, field-yields, anything}
 use Rattle.writing.proofs.Laws.{Spells}

@@ -1,5 +1,4 @@
 -- The dates that the code writes. `proofs/Laws.antt` shows that they are those that some reader gives, no more and no fewer.
-use Prim.Native.Nat.{ℕ}
 use mathlib.Core.Bool.{Bool}
 use lib.IntN.{ℤ, natAbs}
 use Rattle.types.specs.declared.Date.{Date}

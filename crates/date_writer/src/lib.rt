@@ -1,7 +1,7 @@
 // The writer of dates: `YYYY-MM-DD`, `YYYY-Www-D` or `YYYY-DDD`, with `-` in front of a negative year.
 ghost use mathlib.Core.Path.{_≡_};
 ghost use lib.ListN.{length};
-ghost use Rattle.parser.specs.Reading.{and, within};
+ghost use Rattle.parser.specs.Reading.{within};
 ghost use Rattle.date.specs.Rules.{date};
 ghost use Rattle.text.specs.Text.{Puts};
 ghost use Rattle.writing.specs.Spelling.{padded, yearSpelling, dateSpelling};
@@ -11,6 +11,7 @@ use text::put_byte;
 use types::Date;
 use writing::Measured;
 use writing::Written;
+use writing::both;
 use writing::last_digit;
 use writing::put_three;
 use writing::put_two;
@@ -23,12 +24,6 @@ fn within(lo: u32, hi: u32, n: u32) -> bool
         return false;
     }
     n <= hi
-}
-
-fn both(a: bool, b: bool) -> bool
-    ensures { λ r. ⌜ r ≡ and a b ⌝ }
-{
-    if a { b } else { false }
 }
 
 fn year_given(year: i32) -> bool

@@ -1,11 +1,10 @@
 -- Durations: some reader gives every one that is made of numbers of 32 bits, so the slots hold one where each of their numbers fits.
-use Prim.Native.Nat.{ℕ, _<_, _≤_}
+use Prim.Native.Nat.{ℕ}
 use mathlib.Core.List.{List, [], _∷_}
 use mathlib.Core.Bool.{Bool, true, false}
 use mathlib.Core.Path.{_≡_, refl, sym, ap, _∙_}
 use native.Mathlib.Omega.{arith}
 use borrow.Author.Tests.{le-leb, leb-true}
-use lib.Dec.{leb}
 use lib.IntN.{ℤ, pos, negsuc}
 use Rattle.types.specs.declared.Duration.{Duration}
 use Rattle.parser.specs.Reading.{and}

@@ -1,6 +1,6 @@
 -- The record that is made of slots: one within the ranges is made of the slots that hold it, and of no others. A number that was put for one
 -- that does not fit is outside of every range but a duration's.
-use Prim.Native.Nat.{ℕ, _≤_, _<_}
+use Prim.Native.Nat.{ℕ, _≤_}
 use mathlib.Core.List.{List, [], _∷_, _++_}
 use mathlib.Core.Bool.{Bool, true, false}
 use mathlib.Core.Path.{_≡_, refl, sym, ap, _∙_}

@@ -1,7 +1,6 @@
 // The record that slots hold, as a reader fills them. Of numbers that no reader fills in, a record is made that no reader gives.
 ghost use mathlib.Core.Path.{_≡_};
 ghost use mathlib.Core.List.{_∷_, []};
-ghost use Rattle.parser.specs.Reading.{and};
 ghost use Rattle.slots.specs.Slots.{offsetSlots, timeOffsetSlots, timeSlots, dateSlots};
 ghost use Rattle.offset_writer.specs.Ranges.{offsetGiven};
 ghost use Rattle.time_writer.specs.Ranges.{timeOffsetGiven, timeGiven};
@@ -12,6 +11,7 @@ use types::Duration;
 use types::Offset;
 use types::Time;
 use types::TimeOffset;
+use writing::both;
 
 // A duration; or that the slots hold none.
 pub enum HeldDuration {
@@ -129,12 +129,6 @@ fn is_natural(n: i64) -> bool
         return false;
     }
     n <= 4294967295
-}
-
-fn both(a: bool, b: bool) -> bool
-    ensures { λ r. ⌜ r ≡ and a b ⌝ }
-{
-    if a { b } else { false }
 }
 
 // Whether seven numbers all fit 32 bits without a sign.

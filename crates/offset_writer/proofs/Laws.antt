@@ -2,21 +2,19 @@
 use Prim.Native.Nat.{ℕ, zero, suc, _≤_}
 use mathlib.Core.List.{List, [], _∷_, _++_}
 use mathlib.Core.Bool.{Bool, true, false}
-use mathlib.Core.Option.{Option, some, none}
-use mathlib.Core.Path.{_≡_, refl, sym, ap, _∙_}
+use mathlib.Core.Path.{_≡_, refl}
 use native.Mathlib.Omega.{arith}
 use borrow.Author.Tests.{le-leb, leb-true, ne-eqb}
 use lib.Dec.{leb, eqb}
-use lib.IntN.{ℤ, pos, negsuc, natAbs}
-use lib.ListN.{length}
+use lib.IntN.{natAbs}
 use Rattle.types.specs.declared.Offset.{Offset}
-use Rattle.types.specs.Sums.{withSign, signedOffset, sameSign, made}
+use Rattle.types.specs.Sums.{signedOffset, made}
 use Rattle.types.proofs.Laws.{Signed, one-sign-only, made-is-proper}
-use Rattle.parser.specs.Reading.{Reader, lit, seq, alt, and}
+use Rattle.parser.specs.Reading.{lit, and}
 use Rattle.parser.specs.Fields.{hour, minute, signed, orZero}
 use Rattle.parser.proofs.Fields.{and-first, and-second}
 use Rattle.offset.specs.Rules.{allowed, offsetMinute, offsetHour, offsetZulu, offset}
-use Rattle.writing.specs.Spelling.{padded, signByte, isMinus, isZulu, shiftSpelling, offsetSpelling}
+use Rattle.writing.specs.Spelling.{padded, signByte, shiftSpelling, offsetSpelling}
 use Rattle.writing.proofs.Texts.{ReadAs, lit-reads, lit-refuses, seq-reads, seq-refuses, map-reads, map-refuses, verify-reads, opt-reads, alt-first, alt-second, alt-refuses, whole}
 use Rattle.writing.proofs.Digits.{natAbs-signed, field-reads}
 use Rattle.writing.proofs.Yields.{Yields, seq-yields, map-yields, opt-yields, alt-yields, verify-yields, preceded-yields, field-yields, anything, absent-within}

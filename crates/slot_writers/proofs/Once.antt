@@ -1,7 +1,6 @@
 -- No two outcomes meet one promise: the slots, the buffer and the number are fixed by what the slots and the buffer held before. Whether the
 -- slots hold a record that some reader gives need not be told for that: where two outcomes differed, they would hold none, and then they agree.
 use Prim.Native.Nat.{ℕ, _≤_}
-use mathlib.Core.HLevel.{Discrete}
 use mathlib.Core.List.{List, List-discrete}
 use mathlib.Core.Bool.{Bool, true, false}
 use mathlib.Core.Path.{_≡_, refl, sym, _∙_}

@@ -2,8 +2,7 @@
 use Prim.Native.Nat.{ℕ, _≤_, _<_}
 use mathlib.Core.List.{List, [], _∷_, _++_}
 use mathlib.Core.Bool.{Bool, true, false}
-use mathlib.Core.Option.{some, none}
-use mathlib.Core.Path.{_≡_, refl, sym, ap, _∙_}
+use mathlib.Core.Path.{_≡_, refl, sym}
 use native.Mathlib.Omega.{arith}
 use lib.Dec.{ltb, leb}
 use lib.ListN.{length, take, drop, length-append}
@@ -25,7 +24,7 @@ use Rattle.reply.proofs.Short.{digits-short}
 use Rattle.writing.specs.Writing.{Readable}
 use Rattle.writers.specs.Spellings.{kindOf, spelling}
 use Rattle.writers.proofs.Laws.{kind-read, spelling-short}
-use Rattle.spellings.specs.Said.{refusedWord, said, spelledAs, spelled, spelledLine}
+use Rattle.spellings.specs.Said.{refusedWord, said, spelledAs, spelledLine}
 
 -- a record of the whole reader was found
 whole-got : {A : Type 0} (all : ℕ) (f : Found A) (a : A) (n : ℕ) → ended all f ≡ recorded a n → f ≡ got a n

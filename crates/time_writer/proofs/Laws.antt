@@ -3,7 +3,7 @@ use Prim.Native.Nat.{ℕ, _+_, _/_, _%_, _≤_, _<_}
 use mathlib.Core.List.{List, [], _∷_, _++_, append-assoc, append-nil}
 use mathlib.Core.Bool.{Bool, true, false}
 use mathlib.Core.Option.{Option, some, none}
-use mathlib.Core.Path.{_≡_, refl, sym, ap, _∙_}
+use mathlib.Core.Path.{_≡_, refl, sym}
 use native.Mathlib.Omega.{arith}
 use borrow.Author.Tests.{le-leb, leb-true, eqb-true, eqb-false, ne-eqb}
 use lib.Dec.{leb, eqb}
@@ -13,18 +13,18 @@ use Rattle.types.specs.declared.Offset.{Offset}
 use Rattle.types.specs.declared.Time.{Time}
 use Rattle.types.specs.declared.TimeOffset.{TimeOffset}
 use Rattle.types.specs.declared.TimeOffset.the-variants.{Absent, Given}
-use Rattle.parser.specs.Reading.{no, got, lit, seq, alt, opt, map, and, pick}
+use Rattle.parser.specs.Reading.{no, got, lit, seq, opt, and, pick}
 use Rattle.parser.specs.Digits.{isDigit, field, digits, ofRun, nanoseconds, fraction}
-use Rattle.parser.specs.Fields.{hour, minute, second, signed, either, precededBy, orZero}
+use Rattle.parser.specs.Fields.{hour, minute, second, either, precededBy, orZero}
 use Rattle.parser.proofs.Fields.{and-first, and-second}
 use Rattle.parser.proofs.Places.{no≢got, got-value}
 use Rattle.runs.proofs.Nanoseconds.{nanoseconds-small}
 use Rattle.offset.specs.Rules.{offset, offsetHour, offsetZulu}
 use Rattle.time.specs.Rules.{Clock, clockOf, millisecond, secondMillisecond, minuteSecondMillisecond, orMidnight, orAbsent, timeOf, timeOffset, afterHour, baseTime, time}
 use Rattle.writing.specs.Spelling.{padded, signByte, isMinus, isZulu, shiftSpelling, offsetSpelling, clockSpelling, withoutTrailingZeros, fractionSpelling, timeOffsetSpelling, timeSpelling}
-use Rattle.writing.proofs.Texts.{ReadAs, Refuses, lit-reads, lit-refuses, lit-refuses-end, seq-reads, seq-refuses, map-reads, map-refuses, verify-reads, opt-reads, opt-lacks, alt-first, alt-second, alt-refuses, whole}
+use Rattle.writing.proofs.Texts.{ReadAs, Refuses, lit-reads, lit-refuses, lit-refuses-end, seq-reads, seq-refuses, map-reads, map-refuses, opt-reads, opt-lacks, alt-second, alt-refuses, whole}
 use Rattle.writing.proofs.Digits.{begins, field-reads, fraction-reads}
-use Rattle.writing.proofs.Yields.{Yields, OrLeftOut, seq-yields, map-yields, opt-yields, alt-yields, verify-yields, preceded-yields, field-yields, anything, absent-within}
+use Rattle.writing.proofs.Yields.{Yields, OrLeftOut, seq-yields, map-yields, opt-yields, preceded-yields, field-yields, anything, absent-within}
 use Rattle.writing.proofs.Laws.{Spells}
 use Rattle.offset_writer.specs.Ranges.{offsetGiven}
 use Rattle.offset_writer.proofs.Laws.{offset-reads, offset-yields}

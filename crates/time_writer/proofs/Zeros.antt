@@ -1,7 +1,7 @@
 -- A fraction without trailing zeros: taken off one by one they leave the digits that the code writes, and put back they are the nine digits
 -- that were read.
 use Prim.Native.Nat.{ℕ, zero, suc, _+_, _*_, _-_, _/_, _%_, _^_, _≤_, _<_}
-use mathlib.Core.List.{List, [], _∷_, _++_, append-assoc, append-nil}
+use mathlib.Core.List.{List, [], _∷_, _++_, append-assoc}
 use mathlib.Core.Bool.{Bool, true, false}
 use mathlib.Core.Path.{_≡_, refl, sym, ap, _∙_}
 use native.Mathlib.Omega.{arith}
@@ -12,9 +12,6 @@ use lib.ListN.{length, take, replicate, length-append, length-replicate, replica
 use lib.Seq.{take-append-seam}
 use Rattle.parser.specs.Reading.{pick}
 use Rattle.parser.specs.Digits.{numberFrom, number, nanoseconds}
-use Rattle.parser.proofs.Runs.{number-append}
-use Rattle.text.specs.Text.{Puts}
-use Rattle.text.proofs.Laws.{then-puts}
 use Rattle.writing.specs.Spelling.{padded, unlessLast, withoutTrailingZeros}
 use Rattle.time_writer.specs.Ranges.{tailWidth, FractionWidth}
 use Rattle.writing.proofs.Digits.{AllDigits, none, also, length-padded, number-padded, padded-digits}

@@ -1,7 +1,7 @@
 -- A record that is put among those of any kind is read, and written, as it was before.
 use Prim.Native.Nat.{ℕ}
 use mathlib.Core.List.{List}
-use mathlib.Core.Path.{_≡_, refl, sym, ap, _∙_}
+use mathlib.Core.Path.{_≡_}
 use Rattle.parser.specs.Reading.{Found, no, got, stop, Reader, map, mapFound}
 use Rattle.parser.proofs.Places.{no≢got, stop≢got, got-value, got-place}
 use Rattle.kinds.proofs.As.{Injective}

@@ -5,16 +5,15 @@ use mathlib.Core.Bool.{Bool, true, false}
 use mathlib.Core.Path.{_≡_, refl, sym, ap, _∙_}
 use native.Mathlib.Omega.{arith}
 use native.Mathlib.Nat.{add-zero, add-suc, pow-suc, pow-succ', div-one, div-div-eq-div-mul}
-use native.Mathlib.Numerals.{add-one}
-use borrow.Author.Tests.{lt-ltb, le-ltb, le-leb, ltb-true, ltb-false}
-use lib.Dec.{ltb, leb}
+use borrow.Author.Tests.{lt-ltb, le-ltb, le-leb, ltb-true}
+use lib.Dec.{ltb}
 use lib.IntN.{natAbs}
-use lib.ListN.{length, getD, drop, length-append}
+use lib.ListN.{length, getD, length-append}
 use lib.Seq.{getD-append-seam, drop-append-seam}
 use Rattle.types.specs.Sums.{withSign}
 use Rattle.parser.specs.Reading.{no, got, lit, pick, within}
 use Rattle.parser.specs.Digits.{isDigit, digitsFrom, field, digits, numberFrom, number, runAt, limit, run, nanoseconds, fraction}
-use Rattle.parser.proofs.Fields.{DigitAt, OtherAt, digitsFrom-suc, digitsFrom-other, digitsFrom-end}
+use Rattle.parser.proofs.Fields.{DigitAt, digitsFrom-suc, digitsFrom-other, digitsFrom-end}
 use Rattle.parser.proofs.Runs.{number-append}
 use Rattle.parser.proofs.Leaves.{digit-is-not}
 use Rattle.text.specs.Text.{decimal, decimalOf}

@@ -1,7 +1,7 @@
 -- What holds of every writer, once over the kind: a record that is read from some bytes is read back from its spelling, so the spelling tells
 -- the record, and the promise leaves nothing open.
-use Prim.Native.Nat.{ℕ, _+_, _≤_, _<_}
-use mathlib.Core.List.{List, [], _∷_, _++_}
+use Prim.Native.Nat.{ℕ, _≤_, _<_}
+use mathlib.Core.List.{List}
 use mathlib.Core.Bool.{Bool, true, false}
 use mathlib.Core.Path.{_≡_, refl, sym, ap, _∙_}
 use native.Mathlib.Omega.{arith}
@@ -10,7 +10,7 @@ use borrow.Author.Tests.{le-ltb, ltb-true, ltb-false}
 use lib.Dec.{ltb}
 use lib.ListN.{length, take, drop}
 use lib.Seq.{take-append-seam}
-use Rattle.parser.specs.Reading.{Reader, got, pick}
+use Rattle.parser.specs.Reading.{Reader, got}
 use Rattle.parser.specs.Answer.{recorded, Ended}
 use Rattle.parser.proofs.Fields.{true≢false}
 use Rattle.parser.proofs.Places.{got-value}

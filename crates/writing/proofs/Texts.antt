@@ -3,16 +3,16 @@
 use Prim.Native.Nat.{ℕ, _+_}
 use mathlib.Core.List.{List, [], _∷_, _++_, append-assoc, append-nil}
 use mathlib.Core.Bool.{Bool, true, false}
-use mathlib.Core.Option.{Option, some, none}
-use mathlib.Core.Path.{_≡_, refl, sym, ap, _∙_}
+use mathlib.Core.Option.{some, none}
+use mathlib.Core.Path.{_≡_, refl, _∙_}
 use native.Mathlib.Omega.{arith}
 use native.Mathlib.Nat.{add-zero, zero-add, add-assoc}
 use borrow.Author.Tests.{lt-ltb, le-ltb, eq-eqb}
-use lib.Dec.{ltb, eqb}
-use lib.ListN.{length, getD, length-append}
+use lib.Dec.{eqb}
+use lib.ListN.{length, length-append}
 use lib.Seq.{getD-append-seam}
 use Rattle.parser.proofs.Alike.{Alike}
-use Rattle.parser.specs.Reading.{Found, no, got, stop, Reader, then, lack, orElse, keep, mapFound, lit, seq, opt, alt, verify, map, give, pick, and}
+use Rattle.parser.specs.Reading.{no, got, Reader, lit, seq, opt, alt, verify, map, give, and}
 
 -- the reader p reads the text t to the value v, where x stands behind it and whatever stands before it
 pub record ReadAs {A : Type 0} (p : Reader A) (t x : List ℕ) (v : A) : Type 0 where

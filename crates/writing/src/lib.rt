@@ -2,6 +2,7 @@
 ghost use mathlib.Core.Path.{_≡_};
 ghost use Prim.Native.Nat.{_+_, _%_};
 ghost use lib.IntN.{natAbs};
+ghost use Rattle.parser.specs.Reading.{and};
 ghost use Rattle.text.specs.Text.{Puts};
 ghost use Rattle.writing.specs.Spelling.{padded};
 ghost use Rattle.writing.specs.Writing.{numberOf, countOf};
@@ -42,6 +43,13 @@ impl Written {
             Written::TooShort => 0,
         }
     }
+}
+
+// Both hold.
+pub fn both(a: bool, b: bool) -> bool
+    ensures { λ r. ⌜ r ≡ and a b ⌝ }
+{
+    if a { b } else { false }
 }
 
 // A number without its sign.

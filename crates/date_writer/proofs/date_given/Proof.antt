@@ -1,5 +1,4 @@
 -- Form by form, the tests are those of the definition.
-use mathlib.Core.Path.{sym, _∙_}
 use mir.Syntax.{w32}
 use mir.Val.{SFits}
 use borrow.Author.Needs.{needs}

@@ -1,5 +1,4 @@
 -- The size of the year lies in its range.
-use mathlib.Core.Path.{_∙_}
 use borrow.Author.Needs.{needs}
 use Rattle.text.proofs.Sizes.{read}
 use Rattle.date_writer.proofs.year_given.Statement.{statement}

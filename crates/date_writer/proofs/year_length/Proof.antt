@@ -1,6 +1,5 @@
 -- Four digits, behind a minus where the year is negative.
 use mathlib.Core.Bool.{true, false}
-use lib.ListN.{length}
 use Rattle.text.proofs.Sizes.{read}
 use Rattle.writing.specs.Spelling.{padded, yearSpelling}
 use Rattle.writing.proofs.Signs.{negative-is}

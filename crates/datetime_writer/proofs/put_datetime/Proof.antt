@@ -1,10 +1,10 @@
 -- The date stands at the front, the `T` behind it, and the time in what is lent.
 use Prim.Native.Nat.{ℕ, _+_, _≤_, _<_}
 use mathlib.Core.List.{List}
-use mathlib.Core.Path.{_≡_, sym, ap, _∙_}
+use mathlib.Core.Path.{_≡_, ap, _∙_}
 use native.Mathlib.Omega.{arith}
 use borrow.Author.Needs.{needs}
-use lib.ListN.{length, set, take, drop, length-set, length-drop}
+use lib.ListN.{length, set, drop, length-set, length-drop}
 use Rattle.writing.specs.Spelling.{dateSpelling, timeSpelling, dateTimeSpelling}
 use Rattle.writing.specs.Writing.{over}
 use Rattle.writing.proofs.Laws.{put-front}

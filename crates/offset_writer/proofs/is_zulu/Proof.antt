@@ -1,5 +1,4 @@
 -- Both sizes are 0.
-use mathlib.Core.Path.{_≡_, sym, _∙_}
 use borrow.Author.Needs.{needs}
 use borrow.Author.Tests.{eq-eqb, ne-eqb}
 use Rattle.offset_writer.proofs.is_zulu.Statement.{statement}

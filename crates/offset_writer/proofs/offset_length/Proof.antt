@@ -1,5 +1,5 @@
 -- Of an offset that some reader gives, one byte or six.
-use mathlib.Core.Path.{_≡_, sym, _∙_}
+use mathlib.Core.Path.{sym, _∙_}
 use borrow.Author.Needs.{needs}
 use Rattle.writing.specs.Spelling.{padded, shiftSpelling, offsetSpelling}
 use Rattle.writing.proofs.Laws.{readable, not-readable, unread-measures, long-measures}

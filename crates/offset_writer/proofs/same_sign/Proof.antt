@@ -1,6 +1,4 @@
 -- Hours below 0, above it, or 0: what is left to ask of the minutes.
-use mir.Syntax.{w32}
-use mathlib.Core.Bool.{true, false}
 use Rattle.text.proofs.Sizes.{read}
 use Rattle.offset_writer.proofs.Signs.{same-below, same-above, same-zero}
 use Rattle.offset_writer.proofs.same_sign.Statement.{statement}

@@ -1,8 +1,5 @@
 -- Field by field.
-use mathlib.Core.Path.{_≡_, ap, _∙_}
-use lib.IntN.{natAbs}
 use mir.Syntax.{w32}
-use mir.Val.{SFits}
 use borrow.Author.Needs.{needs}
 use Rattle.text.proofs.Sizes.{read}
 use Rattle.offset_writer.proofs.shift_of.Statement.{statement}

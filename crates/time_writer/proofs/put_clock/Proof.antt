@@ -1,5 +1,4 @@
 -- Two digits, a colon, two digits, a colon, two digits.
-use mathlib.Core.List.{append-assoc}
 use borrow.Author.Needs.{needs}
 use Rattle.text.proofs.Laws.{then-puts}
 use Rattle.writing.specs.Spelling.{clockSpelling}

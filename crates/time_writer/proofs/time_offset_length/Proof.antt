@@ -1,5 +1,4 @@
 -- Nothing, or what the offset's own writer measures.
-use mathlib.Core.Path.{_∙_}
 use borrow.Author.Needs.{needs}
 use Rattle.writing.specs.Spelling.{timeOffsetSpelling}
 use Rattle.writing.proofs.Laws.{measures-is}

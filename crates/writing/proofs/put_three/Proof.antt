@@ -1,5 +1,4 @@
 -- Three digits are one and two.
-use Prim.Native.Nat.{_/_}
 use borrow.Author.Needs.{needs}
 use Rattle.text.proofs.Laws.{then-puts}
 use Rattle.writing.specs.Spelling.{padded}

@@ -1,7 +1,7 @@
 -- Of a number below 0, one more and then the negation fit, and are one less than its size; any other is its size.
-use mathlib.Core.Path.{_∙_, ap}
+use mathlib.Core.Path.{_∙_}
 use native.Mathlib.Omega.{arith}
-use lib.IntN.{pos, natAbs}
+use lib.IntN.{pos}
 use mir.Syntax.{w32}
 use mir.Val.{SFits}
 use Rattle.text.proofs.Sizes.{Below, Above, below, above, size-below, minus-fits, read, more, negated}
