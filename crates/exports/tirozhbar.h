@@ -1,7 +1,8 @@
 /* tirozhbar.h: ISO 8601 offsets, times, dates, date-times and durations, read from bytes and written to them.
  *
- * Link with libexports.a, which `rt staticlib exports` writes. The code is proved to do what is said here on every input: it reads the
- * LENGTH bytes at TEXT and writes at most the slots that its kind has. It keeps no state and calls nothing.
+ * Link with libexports.a, which `rt staticlib exports` writes. The code is proved to do what is said here on every input, where the bytes
+ * at TEXT and the slots lie apart. A reader reads the LENGTH bytes at TEXT and writes at most the slots that its kind has; a writer reads
+ * those slots, and writes slot 0 and at most the LENGTH bytes at TEXT. Neither keeps a state or calls anything.
  *
  * A reader fills an array of ROOM slots and returns a number:
  *
@@ -20,8 +21,8 @@
  * The record stands from slot 2 on. After anything but 0 the slots from 2 on are left as they were, and so always are the slots past
  * the kind's number.
  *
- * A writer takes the record from slot 2 on, where a reader leaves it; it does not look at slot 1. It puts the record's one spelling at the front of the
- * LENGTH bytes at TEXT, the text's length into slot 0, and returns a number:
+ * A writer takes the record from slot 2 on, where a reader leaves it; it does not look at slot 1. It puts the record's one spelling at
+ * the front of the LENGTH bytes at TEXT, the text's length into slot 0, and returns a number:
  *
  *     TIROZHBAR_RECORD     0  written
  *     TIROZHBAR_NO_READER  4  no reader leaves such slots; slot 0 is 0

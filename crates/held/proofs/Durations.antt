@@ -47,7 +47,7 @@ module _ {a b c d e f g : ℤ} {y mo w dd h m s : ℕ} (p₁ : Natural a y) (p�
 
 -- ---- and no other slots hold one
 
-pub slots-natural : (d : Duration) → durationGiven d ≡ true → naturals (durationSlots d) ≡ true
+slots-natural : (d : Duration) → durationGiven d ≡ true → naturals (durationSlots d) ≡ true
 unfolding naturals
 slots-natural d e =
     let w = given-within d e in

@@ -44,6 +44,7 @@ fn integer(n: i64) -> i32
     n as i32
 }
 
+// Of each kind, the record of its slots: the one that they hold, where some reader gives it, and otherwise one that no reader gives.
 pub fn offset_of(hours: i64, minutes: i64) -> Offset
     ensures { λ r. ⌜ Made offsetGiven offsetSlots (hours ∷ minutes ∷ []) r ⌝ }
 {

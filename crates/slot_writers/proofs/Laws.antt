@@ -20,7 +20,7 @@ use Rattle.slots.specs.Slots.{dateSlots, timeSlots, dateTimeSlots}
 use Rattle.slots.proofs.Laws.{date-length, time-length}
 use Rattle.writing.specs.declared.Written.{Written}
 use Rattle.writing.specs.declared.Written.the-variants.{NoReader}
-use Rattle.writing.specs.Writing.{countOf, Readable, Leaves, over, Writes}
+use Rattle.writing.specs.Writing.{countOf, Readable, Leaves, Writes}
 use Rattle.writing.proofs.Laws.{Spells, readable, not-readable}
 use Rattle.held.specs.Held.{Made}
 use Rattle.slot_writers.specs.Promise.{Holds, LeavesIn, Tells, WritesFrom}

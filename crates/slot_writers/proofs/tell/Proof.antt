@@ -12,6 +12,12 @@ use Rattle.writing.specs.Writing.{countOf}
 use Rattle.slot_writers.proofs.tell.Statement.{statement}
 use Rattle.slot_writers.proofs.tell.Tie as tie
 
+refusal : tie.Need-returns-2
+refusal c = rw (c .enum-told .given .1) (record { number = refl; count = refl })
+
+refusal-2 : tie.Need-returns-3
+refusal-2 c = rw (c .enum-told2 .given .1) (record { number = refl; count = refl })
+
 small : (c : tie.After-known-told) → c .before .written .given .0 .0 < 2 ^ 63
 small c = omega (arith, ap countOf (c .before .written .given .1))
 
@@ -31,6 +37,6 @@ tell-spec =
     (λ c. simp length-set)
     returns
     (λ c. search needs)
-    (λ c. rw (c .enum-told .given .1) (record { number = refl; count = refl }))
+    refusal
     (λ c. search needs)
-    (λ c. rw (c .enum-told2 .given .1) (record { number = refl; count = refl })))
+    refusal-2)
