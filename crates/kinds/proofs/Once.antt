@@ -11,7 +11,7 @@ use Rattle.kinds.specs.declared.answer.Answer.the-variants.{Record, Refu
 use Rattle.kinds.specs.declared.answer.Read.{Read}
 use Rattle.kinds.specs.Kinds.{ruleOf, bound, told, Reads, Parses}
 
-told-once : (a b : Answer) → told a ≡ told b → a ≡ b
+pub told-once : (a b : Answer) → told a ≡ told b → a ≡ b
 told-once (Record v m) (Record w n) e = let x = recorded-once e in ap₂ Record (x .0) (x .1)
 told-once (Record v m) (Refused r n) e = absurd (recorded-or-refused e)
 told-once (Refused r n) (Record v m) e = absurd (recorded-or-refused (sym e))

@@ -27,14 +27,14 @@ use Rattle.parser.proofs.General.{Eager, seq-eager, map-eager, alt-eage
 abbrev pub most : ℕ → ℕ → ℕ
 most j k = pick (leb j k) k j
 
-most-left : (j k : ℕ) → j ≤ most j k
+pub most-left : (j k : ℕ) → j ≤ most j k
 most-left j k = go (leb j k) refl
   where
     go : (t : Bool) → leb j k ≡ t → j ≤ pick t k j
     go true e = leb-true j k e
     go false e = omega arith
 
-most-right : (j k : ℕ) → k ≤ most j k
+pub most-right : (j k : ℕ) → k ≤ most j k
 most-right j k = go (leb j k) refl
   where
     go : (t : Bool) → leb j k ≡ t → k ≤ pick t k j

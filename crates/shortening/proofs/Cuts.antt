@@ -1,0 +1,96 @@
+-- A text and a shorter one that are alike but for a few bytes in the middle, and what it means that a reader reads both the same.
+use Prim.Native.Nat.{ℕ, _+_, _≤_}
+use mathlib.Core.List.{List, _++_}
+use mathlib.Core.Bool.{Bool, true, false}
+use mathlib.Core.Path.{_≡_, refl}
+use lib.ListN.{length}
+use Rattle.parser.specs.Reading.{Found, no, got, stop, Reader, seq, then, opt, lack, alt, orElse, verify, keep, map, mapFound, give, pick}
+
+-- `long` stands in the one where `short` stands in the other
+pub record Cut : Type 0 where
+  pub before : List ℕ
+  pub long : List ℕ
+  pub short : List ℕ
+  pub rest : List ℕ
+
+abbrev pub whole : Cut → List ℕ
+whole c = c .before ++ (c .long ++ c .rest)
+
+abbrev pub kept : Cut → List ℕ
+kept c = c .before ++ (c .short ++ c .rest)
+
+-- the same place in both: not past the beginning of what differs, or behind it
+pub data Place (c : Cut) (m n : ℕ) : Type 0 where
+  before : m ≡ n → n ≤ length (c .before) → Place c m n
+  behind : (k : ℕ) → m ≡ length (c .before ++ c .long) + k → n ≡ length (c .before ++ c .short) + k → Place c m n
+
+pub record CarriedGot {A : Type 0} (c : Cut) (f : Found A) (a : A) (n : ℕ) : Type 0 where
+  pub place : ℕ
+  pub found : f ≡ got a place
+  pub same : Place c place n
+
+-- the same is found in both, up to the same place
+abbrev pub Carried : {A : Type 0} → Cut → Found A → Found A → Type 0
+Carried c f no = f ≡ no
+Carried c f (stop r) = f ≡ stop r
+Carried c f (got a n) = CarriedGot c f a n
+
+-- from the same place on both texts are read the same
+abbrev pub Simulates : {A : Type 0} → Cut → Reader A → Type 0
+Simulates c p = (m n : ℕ) → Place c m n → Carried c (p .reads (whole c) m) (p .reads (kept c) n)
+
+-- ---- each combinator passes it on
+
+module _ (c : Cut) where
+  then-carried : {A B : Type 0} (f g : Found A) (k l : A → ℕ → Found B) → Carried c f g → ((a : A) (m n : ℕ) → Place c m n → Carried c (k a m) (l a n)) → Carried c (then f k) (then g l)
+  then-carried f no k l h hk = rw h
+  then-carried f (stop r) k l h hk = rw h
+  then-carried f (got a n) k l h hk = rw (h .found) (hk a (h .place) n (h .same))
+
+  lack-carried : {A : Type 0} (f g : Found A) (m n : ℕ) → Place c m n → Carried c f g → Carried c (lack m f) (lack n g)
+  lack-carried f no m n e h = record { place = m; found = rw h; same = e }
+  lack-carried f (stop r) m n e h = rw h
+  lack-carried f (got a k) m n e h = record { place = h .place; found = rw (h .found); same = h .same }
+
+  or-else-carried : {A : Type 0} (f g f′ g′ : Found A) → Carried c f g → Carried c f′ g′ → Carried c (orElse f f′) (orElse g g′)
+  or-else-carried f no f′ g′ h h′ = rw h h′
+  or-else-carried f (stop r) f′ g′ h h′ = rw h
+  or-else-carried f (got a n) f′ g′ h h′ = record { place = h .place; found = rw (h .found); same = h .same }
+
+  keep-carried : {A : Type 0} (t : A → Bool) (f g : Found A) → Carried c f g → Carried c (keep t f) (keep t g)
+  keep-carried t f no h = rw h
+  keep-carried t f (stop r) h = rw h
+  keep-carried {A} t f (got a n) h = rw (h .found) (go (t a))
+    where
+      go : (u : Bool) → Carried {A = A} c (pick u (got a (h .place)) no) (pick u (got a n) no)
+      go true = record { place = h .place; found = refl; same = h .same }
+      go false = refl
+
+  map-carried : {A B : Type 0} (t : A → B) (f g : Found A) → Carried c f g → Carried c (mapFound t f) (mapFound t g)
+  map-carried t f no h = rw h
+  map-carried t f (stop r) h = rw h
+  map-carried t f (got a n) h = record { place = h .place; found = rw (h .found); same = h .same }
+
+  pub seq-simulates : {A B : Type 0} (p : Reader A) (q : A → Reader B) → Simulates c p → ((a : A) → Simulates c (q a)) → Simulates c (seq p q)
+  unfolding seq
+  seq-simulates p q hp hq m n e = then-carried (p .reads (whole c) m) (p .reads (kept c) n) _ _ (hp m n e) (λ a. hq a)
+
+  pub opt-simulates : {A : Type 0} (p : Reader A) → Simulates c p → Simulates c (opt p)
+  unfolding opt
+  opt-simulates p hp m n e = lack-carried (p .reads (whole c) m) (p .reads (kept c) n) m n e (hp m n e)
+
+  pub alt-simulates : {A : Type 0} (p q : Reader A) → Simulates c p → Simulates c q → Simulates c (alt p q)
+  unfolding alt
+  alt-simulates p q hp hq m n e = or-else-carried (p .reads (whole c) m) (p .reads (kept c) n) (q .reads (whole c) m) (q .reads (kept c) n) (hp m n e) (hq m n e)
+
+  pub verify-simulates : {A : Type 0} (t : A → Bool) (p : Reader A) → Simulates c p → Simulates c (verify t p)
+  unfolding verify
+  verify-simulates t p hp m n e = keep-carried t (p .reads (whole c) m) (p .reads (kept c) n) (hp m n e)
+
+  pub map-simulates : {A B : Type 0} (t : A → B) (p : Reader A) → Simulates c p → Simulates c (map t p)
+  unfolding map
+  map-simulates t p hp m n e = map-carried t (p .reads (whole c) m) (p .reads (kept c) n) (hp m n e)
+
+  pub give-simulates : {A : Type 0} (a : A) → Simulates c (give a)
+  unfolding give
+  give-simulates a m n e = record { place = m; found = refl; same = e }

@@ -1,0 +1,7 @@
+pub mod Cuts
+pub mod Local
+pub mod Spans
+pub mod Trims
+pub mod Zeros
+pub mod Fractions
+pub mod Rules
