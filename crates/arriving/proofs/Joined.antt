@@ -66,6 +66,10 @@ joins-point {A} p w hp t c b h e is =
       mark = marked-snoc false t (joined c b) 0 ∙ rw (l .1, one, is);
     }
   where
+    zero : (o : Bool) → eqb c 48 ≡ o → eqb (pick o b c) 48 ≡ and o (eqb b 48)
+    zero true e = refl
+    zero false e = e
+
     digit : (o : Bool) → isDigit c ≡ true → isDigit (pick o b c) ≡ true
     digit true e = is
     digit false e = e
@@ -74,7 +78,7 @@ joins-point {A} p w hp t c b h e is =
     reads x ec eo q =
         let u = q .before in
         let n = q .digits in
-        let z : FractionCut = record { before = u; point = q .point; nine = n; tenth = c; next = b; one = joined c b; rest = x; points = q .points; size = q .size; digits = q .all; first = ec; second = is; either = eo } in
+        let z : FractionCut = record { before = u; point = q .point; nine = n; tenth = c; next = b; one = joined c b; rest = x; points = q .points; size = q .size; digits = q .all; first = ec; second = is; either = eo; zero = zero (eqb c 48) refl } in
         let size : length t ≡ length u + 10 = ap length (q .is) ∙ omega (arith, length-append u (q .point ∷ n), q .size) in
         let short : length (u ++ q .point ∷ (n ++ joined c b ∷ [])) ≡ suc (length t) = omega (arith, q .size, length-append u (q .point ∷ (n ++ joined c b ∷ [])), length-append n (joined c b ∷ [])) in
         let long : length (u ++ q .point ∷ (n ++ c ∷ b ∷ [])) ≡ suc (suc (length t)) = omega (arith, q .size, length-append u (q .point ∷ (n ++ c ∷ b ∷ [])), length-append n (c ∷ b ∷ [])) in

@@ -25,14 +25,14 @@ use Rattle.kinds.proofs.Once.{told-once, read-once, parsed-once}
 use Rattle.arriving.specs.declared.State.{State}
 use Rattle.arriving.specs.declared.Stepped.{Stepped}
 use Rattle.arriving.specs.Keeping.{joins, pushOne, pushes, started, stepped, textOf, carry, moved, foundIn, Answers, Ends}
-use Rattle.arriving.specs.Pieces.{steps, accept, accepts, acceptedOf, joinAll}
+use Rattle.arriving.specs.Pieces.{steps, accept, accepts, acceptedOf, Faithful, joinAll}
 use Rattle.arriving.proofs.Moves.{over, over-kept, toldMoved, begun-moved, told-moved-once}
 use Rattle.arriving.proofs.Stands.{Stands, start-stands, pushes-stands}
 
 -- ---- the state that steps lead to
 
 -- a piece is accepted, or leaves the state as it is
-step-stands : (st : State) (s p : List ℕ) → Stands st s → Stands (stepped st p .state) (accept s p)
+pub step-stands : (st : State) (s p : List ℕ) → Stands st s → Stands (stepped st p .state) (accept s p)
 step-stands st s p h = go (leb (st .accepted + length p) 4294967295) (leb (length s + length p) 4294967295) (ap (λ (n : ℕ). leb (n + length p) 4294967295) (h .accepted))
   where
     go : (t u : Bool) → t ≡ u → Stands (pick {A = Stepped} t (record { state = pushes st p; number = 0 }) (record { state = st; number = 6 }) .state) (pick u (s ++ p) s)
@@ -64,7 +64,7 @@ unfolding pushes
 pushes-kind [] st = refl
 pushes-kind (b ∷ p) st = pushes-kind p (pushOne st b) ∙ one-kind st b
 
-step-kind : (st : State) (p : List ℕ) → stepped st p .state .kind ≡ st .kind
+pub step-kind : (st : State) (p : List ℕ) → stepped st p .state .kind ≡ st .kind
 step-kind st p = go (leb (st .accepted + length p) 4294967295)
   where
     go : (t : Bool) → pick {A = Stepped} t (record { state = pushes st p; number = 0 }) (record { state = st; number = 6 }) .state .kind ≡ st .kind
@@ -120,24 +120,34 @@ module _ (st : State) (s : List ℕ) (h : Stands st s) where
   pub ends-parses : (a : Answer) → Ends st a → Parses (st .kind) s a
   ends-parses a e = e ∙ ap₂ ended (h .accepted) found-in
 
--- ---- the theorem: after any steps from a start
+-- ---- the theorem: after any steps from a start, refused ones among them
 
-pub answer-of-pieces : (k : Kind) (ps : List (List ℕ)) (r : Read) → Answers (steps (started k) ps) r → Reads k (acceptedOf ps) r
-answer-of-pieces k ps r a = rw (steps-kind ps (started k)) at (answers-reads (steps (started k) ps) (acceptedOf ps) (reached k ps) r a)
-
-pub end-of-pieces : (k : Kind) (ps : List (List ℕ)) (a : Answer) → Ends (steps (started k) ps) a → Parses k (acceptedOf ps) a
-end-of-pieces k ps a e = rw (steps-kind ps (started k)) at (ends-parses (steps (started k) ps) (acceptedOf ps) (reached k ps) a e)
-
--- "6, exactly when the accepted bytes would pass 4,294,967,295 in all", and else 0
-pub number-of-step : (k : Kind) (ps : List (List ℕ)) (p : List ℕ) → stepped (steps (started k) ps) p .number ≡ pick (leb (length (acceptedOf ps) + length p) 4294967295) 0 6
-number-of-step k ps p = go (leb (st .accepted + length p) 4294967295) ∙ ap (λ (n : ℕ). pick (leb (n + length p) 4294967295) 0 6) (reached k ps .accepted)
+pub faithful : (k : Kind) (ps : List (List ℕ)) → Faithful k (acceptedOf ps) (steps (started k) ps)
+faithful k ps = record {
+  answers = λ r a. rw same at (answers-reads st (acceptedOf ps) h r a);
+  ends = λ a e. rw same at (ends-parses st (acceptedOf ps) h a e);
+  number = λ p. number p (leb (st .accepted + length p) 4294967295) ∙ ap (λ (n : ℕ). pick (leb (n + length p) 4294967295) 0 6) (h .accepted);
+}
   where
     st : State
     st = steps (started k) ps
 
-    go : (t : Bool) → pick {A = Stepped} t (record { state = pushes st p; number = 0 }) (record { state = st; number = 6 }) .number ≡ pick t 0 6
-    go true = refl
-    go false = refl
+    same : st .kind ≡ k
+    same = steps-kind ps (started k)
+
+    h : Stands st (acceptedOf ps)
+    h = reached k ps
+
+    number : (p : List ℕ) (t : Bool) → pick {A = Stepped} t (record { state = pushes st p; number = 0 }) (record { state = st; number = 6 }) .number ≡ pick t 0 6
+    number p true = refl
+    number p false = refl
+
+-- however the bytes were cut: where the same is accepted, the same is answered
+pub answer-however-cut : (k : Kind) (ps qs : List (List ℕ)) → acceptedOf ps ≡ acceptedOf qs → (a b : Read) → Answers (steps (started k) ps) a → Answers (steps (started k) qs) b → a ≡ b
+answer-however-cut k ps qs e a b h g = read-once k (acceptedOf qs) a b (rw e at (faithful k ps .answers a h)) (faithful k qs .answers b g)
+
+pub end-however-cut : (k : Kind) (ps qs : List (List ℕ)) → acceptedOf ps ≡ acceptedOf qs → (a b : Answer) → Ends (steps (started k) ps) a → Ends (steps (started k) qs) b → a ≡ b
+end-however-cut k ps qs e a b h g = parsed-once k (acceptedOf qs) a b (rw e at (faithful k ps .ends a h)) (faithful k qs .ends b g)
 
 -- pieces of no more bytes than that in all are accepted, each of them
 all-accepted : (ps : List (List ℕ)) (s : List ℕ) → length (s ++ joinAll ps) ≤ 4294967295 → accepts s ps ≡ s ++ joinAll ps
@@ -150,13 +160,6 @@ all-accepted (p ∷ ps) s h =
 
 pub accepted-whole : (ps : List (List ℕ)) → length (joinAll ps) ≤ 4294967295 → acceptedOf ps ≡ joinAll ps
 accepted-whole ps h = all-accepted ps [] h
-
--- however the bytes were cut: where the same is accepted, the same is answered
-pub answer-however-cut : (k : Kind) (ps qs : List (List ℕ)) → acceptedOf ps ≡ acceptedOf qs → (a b : Read) → Answers (steps (started k) ps) a → Answers (steps (started k) qs) b → a ≡ b
-answer-however-cut k ps qs e a b h g = read-once k (acceptedOf qs) a b (rw e at (answer-of-pieces k ps a h)) (answer-of-pieces k qs b g)
-
-pub end-however-cut : (k : Kind) (ps qs : List (List ℕ)) → acceptedOf ps ≡ acceptedOf qs → (a b : Answer) → Ends (steps (started k) ps) a → Ends (steps (started k) qs) b → a ≡ b
-end-however-cut k ps qs e a b h g = parsed-once k (acceptedOf qs) a b (rw e at (end-of-pieces k ps a h)) (end-of-pieces k qs b g)
 
 -- ---- no two answers meet one promise, whatever the state
 

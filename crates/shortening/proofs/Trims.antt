@@ -44,7 +44,7 @@ pub record ZeroCut : Type 0 where
   pub starts : fresh before (length before) ≡ true
   pub is : isDigit digit ≡ true
 
--- a comma or point, nine digits, and two more, for which one stands
+-- a comma or point, nine digits, and two more, for which one stands: it is 0 exactly where both are
 pub record FractionCut : Type 0 where
   pub before : List ℕ
   pub point : ℕ
@@ -59,6 +59,7 @@ pub record FractionCut : Type 0 where
   pub first : isDigit tenth ≡ true
   pub second : isDigit next ≡ true
   pub either : isDigit one ≡ true
+  pub zero : eqb one 48 ≡ and (eqb tenth 48) (eqb next 48)
 
 abbrev pub CutOf : Family → Type 0
 CutOf zeros = ZeroCut
