@@ -1,7 +1,7 @@
 -- The state of a record that arrives in pieces: what each function makes of any state.
 use Prim.Native.Nat.{ℕ, zero, suc, _+_, _-_}
 use mathlib.Core.List.{List, [], _∷_}
-use mathlib.Core.Bool.{Bool, true, false, not}
+use mathlib.Core.Bool.{Bool, true, false}
 use mathlib.Core.Path.{_≡_}
 use lib.ListN.{length, getD, take, set, replicate}
 use lib.Dec.{ltb, leb, eqb}
@@ -69,6 +69,11 @@ pushOne st b =
 unfoldable pub pushes : State → List ℕ → State
 pushes st [] = st
 pushes st (b ∷ p) = pushes (pushOne st b) p
+
+-- how many zeros a list begins with
+unfoldable pub zeroRun : List ℕ → ℕ
+zeroRun [] = 0
+zeroRun (b ∷ p) = pick (eqb b 48) (suc (zeroRun p)) 0
 
 abbrev pub started : Kind → State
 started k = record { kind = k; kept = replicate 80 0; places = replicate 80 0; len = 0; mark = pick (dropsZeros k) 1 0; accepted = 0 }

@@ -3,14 +3,14 @@
 // `start` gives a state, `step` gives it a piece, and `answer` and `end` say what the two readers say of all that was accepted, however it was
 // cut: that is `proofs/Laws.antt`. The state never holds the text, which has no limit: it keeps at most 80 bytes that are read the same, and
 // of each the place where it stood (specs/Keeping.antt).
-ghost use Prim.Native.Nat.{_+_, _≤_, min};
+ghost use Prim.Native.Nat.{_+_, _<_, _≤_, min, max};
 ghost use mathlib.Core.Path.{_≡_};
-ghost use lib.ListN.{length, take};
+ghost use lib.ListN.{length, drop};
 ghost use lib.Dec.{ltb};
 ghost use Rattle.parser.specs.Reading.{pick};
 ghost use Rattle.parser.specs.Digits.{isDigit};
 ghost use Rattle.kinds.specs.Kinds.{told};
-ghost use Rattle.arriving.specs.Keeping.{dropsZeros, isPoint, joined, joinsTo, nextMark, pushes, started, stepped, carry, Answers, Ends};
+ghost use Rattle.arriving.specs.Keeping.{dropsZeros, isPoint, joined, joinsTo, nextMark, zeroRun, pushes, started, stepped, carry, Answers, Ends};
 use kinds::answer::Answer;
 use kinds::answer::Kind;
 use kinds::answer::Read;
@@ -100,55 +100,69 @@ fn joins(mark: u8, len: usize, b: u8) -> bool
     false
 }
 
-// Each byte of the piece in turn.
-fn push(state: State, piece: &[u8]) -> State
+// The place behind the zeros that stand from `i` on.
+fn zeros_end(piece: &[u8], i: usize) -> usize
+    ensures { λ r. ⌜ r ≡ i + zeroRun (drop i (now (piece .entry))) ⌝ }
+{
+    let mut end = i;
+    while end < piece.len() {
+        if piece[end] != 48 {
+            return end;
+        }
+        end += 1;
+    }
+    end
+}
+
+// The place behind what is joined at one go: all zeros, since the second changes neither the digit nor the mark, or one digit.
+fn run_end(piece: &[u8], i: usize) -> usize
+    requires { ⌜ i < length (now piece) ⌝ }
+    ensures { λ r. ⌜ r ≡ i + max 1 (zeroRun (drop i (now (piece .entry)))) ⌝ }
+{
+    if piece[i] == 48 {
+        zeros_end(piece, i)
+    } else {
+        i + 1
+    }
+}
+
+// Each byte of the piece in turn, while there is room; what is left is only counted.
+fn push(mut state: State, piece: &[u8]) -> State
     requires { ⌜ state .accepted + length (now piece) ≤ 4294967295 ⌝ }
     ensures { λ r. ⌜ r ≡ pushes state (now (piece .entry)) ⌝ }
 {
-    let kind = state.kind;
-    let zeros = drops_zeros(kind);
-    let mut kept = state.kept;
-    let mut places = state.places;
+    let zeros = drops_zeros(state.kind);
     let mut len = state.len;
     let mut mark = state.mark;
     let mut accepted = state.accepted;
     let mut i = 0;
     while i < piece.len() {
         if ROOM <= len {
-            accepted += (piece.len() - i) as u32;
-            return State {
-                kind,
-                kept,
-                places,
-                len,
-                mark,
-                accepted,
-            };
+            break;
         }
         let b = piece[i];
-        let place = accepted;
-        accepted += 1;
-        i += 1;
         let next = next_mark(zeros, mark, b);
         if joins(mark, len, b) {
             let last = len - 1;
-            kept[last] = join(kept[last], b);
-            places[last] = place;
+            let old = state.kept[last];
+            let end = run_end(piece, i);
+            accepted += (end - i) as u32;
+            state.kept[last] = join(old, b);
+            state.places[last] = accepted - 1;
+            i = end;
         } else {
-            kept[len] = b;
-            places[len] = place;
+            state.kept[len] = b;
+            state.places[len] = accepted;
             len += 1;
+            accepted += 1;
+            i += 1;
         }
         mark = next;
     }
-    State {
-        kind,
-        kept,
-        places,
-        len,
-        mark,
-        accepted,
-    }
+    state.len = len;
+    state.mark = mark;
+    state.accepted = accepted + (piece.len() - i) as u32;
+    state
 }
 
 // Nothing accepted yet, of a record of the kind.
@@ -180,17 +194,6 @@ pub fn step(state: State, piece: &[u8]) -> Stepped
     }
 }
 
-// The count of kept bytes as a count of the input's.
-fn count_of(state: State, n: usize) -> usize
-    requires { ⌜ n ≤ 80 ⌝ }
-    ensures { λ r. ⌜ r ≡ carry state n ⌝ }
-{
-    if n == 0 {
-        return 0;
-    }
-    state.places[n - 1] as usize + 1
-}
-
 // No more than there is room for.
 fn held(len: usize) -> usize
     ensures { λ r. ⌜ r ≡ min len 80 ⌝ }
@@ -198,7 +201,7 @@ fn held(len: usize) -> usize
     if len < ROOM { len } else { ROOM }
 }
 
-// What the beginning reader says of all that was accepted.
+// What the beginning reader says of all that was accepted: what it says of the kept bytes, the count up to the place of the last that it read.
 pub fn answer(state: State) -> Read
     ensures { λ r. ⌜ Answers state r ⌝ }
 {
@@ -209,13 +212,17 @@ pub fn answer(state: State) -> Read
     let verdict = read.verdict;
     let short = read.answer;
     match short {
-        Answer::Record { value, count } => Read {
-            answer: Answer::Record {
-                value,
-                count: count_of(state, count),
-            },
-            verdict,
-        },
+        Answer::Record { value, count: n } => {
+            let mut count = n;
+            if 0 < n {
+                let last = n - 1;
+                count = state.places[last] as usize + 1;
+            }
+            Read {
+                answer: Answer::Record { value, count },
+                verdict,
+            }
+        }
         Answer::Refused { why, count } => Read {
             answer: Answer::Refused { why, count },
             verdict,
