@@ -146,7 +146,8 @@ fn push(mut state: State, piece: &[u8]) -> State
             let last = len - 1;
             let old = state.kept[last];
             let end = run_end(piece, i);
-            accepted += (end - i) as u32;
+            let many = (end - i) as u32;
+            accepted += many;
             state.kept[last] = join(old, b);
             state.places[last] = accepted - 1;
             i = end;
@@ -161,7 +162,8 @@ fn push(mut state: State, piece: &[u8]) -> State
     }
     state.len = len;
     state.mark = mark;
-    state.accepted = accepted + (piece.len() - i) as u32;
+    let left = (piece.len() - i) as u32;
+    state.accepted = accepted + left;
     state
 }
 
