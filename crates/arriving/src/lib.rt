@@ -215,10 +215,10 @@ pub fn answer(state: State) -> Read
     let short = read.answer;
     match short {
         Answer::Record { value, count: n } => {
+            let places = state.places;
             let mut count = n;
             if 0 < n {
-                let last = n - 1;
-                count = state.places[last] as usize + 1;
+                count = places[n - 1] as usize + 1;
             }
             Read {
                 answer: Answer::Record { value, count },
