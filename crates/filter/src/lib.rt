@@ -35,6 +35,7 @@ fn tell_unread(program: Program) {
         Program::Answers => tell(b"answers: standard input"),
         Program::Replay => tell(b"replay: standard input"),
         Program::Spell => tell(b"spell: standard input"),
+        Program::Pieces => tell(b"pieces: standard input"),
     }
 }
 
@@ -43,12 +44,13 @@ fn tell_unwritten(program: Program) {
         Program::Answers => tell(b"answers: standard output"),
         Program::Replay => tell(b"replay: standard output"),
         Program::Spell => tell(b"spell: standard output"),
+        Program::Pieces => tell(b"pieces: standard output"),
     }
 }
 
 // Hands the responses to the lines that a block ends to the write, step by step.
 fn serve(program: Program, kept: &mut [u8], held: usize, block: &[u8], out: &mut [u8]) -> Served
-    requires { ⌜ (1024 ≤ length (now kept)) × (512 ≤ length (now out)) ⌝ }
+    requires { ⌜ (1024 ≤ length (now kept)) × (16384 ≤ length (now out)) ⌝ }
     ensures { λ r. ⌜ Serves program held (now (block .entry)) (now (kept .entry)) (now (kept .exit)) r ⌝ }
 {
     let mut held = held;
@@ -73,7 +75,7 @@ fn serve_last(program: Program, kept: &[u8], held: usize, out: &mut [u8]) -> boo
 
 // Reads once, and answers what came; at the end of the input, the last line. Done also where something failed, which is told.
 fn one_turn(program: Program, buf: &mut [u8], kept: &mut [u8], held: usize, out: &mut [u8]) -> Turn
-    requires { ⌜ (1024 ≤ length (now kept)) × (512 ≤ length (now out)) ⌝ }
+    requires { ⌜ (1024 ≤ length (now kept)) × (16384 ≤ length (now out)) ⌝ }
 {
     let got = libc::read(STDIN_FILENO, buf);
     if got < 0 {
@@ -99,7 +101,7 @@ fn one_turn(program: Program, buf: &mut [u8], kept: &mut [u8], held: usize, out:
 
 // A proved loop has to end, and nothing says that an input does. So the loop counts its turns down, from a number that no run uses up.
 fn all_turns(program: Program, buf: &mut [u8], kept: &mut [u8], out: &mut [u8])
-    requires { ⌜ (1024 ≤ length (now kept)) × (512 ≤ length (now out)) ⌝ }
+    requires { ⌜ (1024 ≤ length (now kept)) × (16384 ≤ length (now out)) ⌝ }
 {
     let mut held = 0;
     let mut left = u64::MAX;

@@ -1,4 +1,4 @@
--- A line that names a kind has a letter and a space, and a line that is too long names none.
+-- A line that names a kind has a letter and a space and at most 200 bytes more, and a line that is too long names none.
 use Prim.Native.Nat.{ℕ, _≤_, _<_}
 use mathlib.Core.List.{List}
 use mathlib.Core.Bool.{Bool, true, false}
@@ -25,6 +25,13 @@ names-long l k e = go _ (leb 2 (length l)) refl e
 pub long-unknown : (l : List ℕ) → 202 < length l → questionOf l ≡ Unknown
 unfolding questionOf
 long-unknown l h = rw (le-leb 2 (length l) (omega arith), lt-leb (length l) 202 h)
+
+pub names-short : (l : List ℕ) (k : Kind) → questionOf l ≡ Names k → length l ≤ 202
+names-short l k e = go (leb (length l) 202) refl
+  where
+    go : (t : Bool) → leb (length l) 202 ≡ t → length l ≤ 202
+    go true h = leb-true (length l) 202 h
+    go false h = let u = long-unknown l (leb-false (length l) 202 h) in let z : _≡_ {A = ℕ} 0 1 = cc in absurd (omega arith)
 
 -- An answer to the first 203 bytes of a line, or more of them, is an answer to the line: no line that long is known.
 pub answers-clip : (shown : Bool) (limit : ℕ) (l t : List ℕ) → 203 ≤ limit → Answers shown (take limit l) t → Answers shown l t

@@ -51,7 +51,7 @@ word-short (word.Number n) = omega (arith, digits-short 20 n)
 word-short (word.Minus n) = omega (arith, digits-short 20 n)
 word-short word.Nothing = omega arith
 
-text-short : (l : List Word) → length (textOf l) ≤ 22 * length l
+pub text-short : (l : List Word) → length (textOf l) ≤ 22 * length l
 text-short [] = omega arith
 text-short (w ∷ l) = simp length-append (omega (arith, word-short w, text-short l))
 
@@ -67,7 +67,7 @@ first-few (record-of.Offset v) = omega arith
 first-few (record-of.Stamp v) = omega (arith, date-few (v .date))
 first-few (record-of.Duration v) = omega arith
 
-record-few : (v : Option Record) → length (recordOrDash v) ≤ 10
+pub record-few : (v : Option Record) → length (recordOrDash v) ≤ 10
 record-few none = omega arith
 record-few (some v) = rw length-append (first-few v)
 

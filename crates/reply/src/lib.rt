@@ -4,9 +4,10 @@
 //
 // put into a buffer of the caller's. Programs stand on `answer_line`.
 ghost use mathlib.Core.Path.{_≡_};
+ghost use Rattle.kinds.specs.Kinds.{told};
 ghost use Rattle.text.specs.Text.{Puts};
 ghost use Rattle.words.specs.Words.{textOf};
-ghost use Rattle.reply.specs.Line.{firstWords, recordWords, Gives, Answered, questionOf, Answers, AnswersLine};
+ghost use Rattle.reply.specs.Line.{firstWords, recordWords, recordOrDash, Gives, Answered, questionOf, Answers, AnswersLine};
 use kinds::answer::Answer;
 use kinds::answer::Kind;
 use kinds::answer::Letter;
@@ -52,7 +53,17 @@ fn put_record(out: &mut [u8], at: usize, value: Record) -> usize
     }
 }
 
-// B COUNT [VERDICT] W WCOUNT RECORD, the record being a dash where there is none
+// RECORD, or a dash where there is none
+pub fn put_told(out: &mut [u8], at: usize, answer: Answer) -> usize
+    ensures { λ r. ⌜ Puts (textOf (recordOrDash (told answer .value))) (now (out .entry)) at (now (out .exit)) r ⌝ }
+{
+    match answer {
+        Answer::Record { value, count: _ } => put_record(out, at, value),
+        Answer::Refused { why: _, count: _ } => put_word(out, at, Word::Name(Name::Dash)),
+    }
+}
+
+// B COUNT [VERDICT] W WCOUNT RECORD
 fn answer_text(kind: Kind, s: &[u8], shown: bool, out: &mut [u8], at: usize) -> usize
     ensures { λ r. ⌜ Gives (Answered shown kind (now (s .entry))) (now (out .entry)) at (now (out .exit)) r ⌝ }
 {
@@ -66,10 +77,7 @@ fn answer_text(kind: Kind, s: &[u8], shown: bool, out: &mut [u8], at: usize) -> 
         next,
         records::head(begun.count(), shown, verdict, whole.number(), whole.count()),
     );
-    match begun {
-        Answer::Record { value, count: _ } => put_record(out, next, value),
-        Answer::Refused { why: _, count: _ } => put_word(out, next, Word::Name(Name::Dash)),
-    }
+    put_told(out, next, begun)
 }
 
 // The kind that a line names, where it is a letter, a space and at most 200 bytes. Of a line that is too long the first bytes are enough.

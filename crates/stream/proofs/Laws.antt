@@ -19,21 +19,24 @@ use Rattle.reply.proofs.Asked.{answers-clip}
 use Rattle.reply.proofs.Short.{line-short}
 use Rattle.samples.proofs.Lines.{compares-clip, line-short as compares-short}
 use Rattle.spellings.proofs.Laws.{spelled-clip, line-short as spelled-short}
+use Rattle.cuts.proofs.Laws.{says-clip, line-short as says-short}
 use Rattle.stream.specs.declared.Program.{Program}
-use Rattle.stream.specs.declared.Program.the-variants.{Answers, Replay, Spell}
+use Rattle.stream.specs.declared.Program.the-variants.{Answers, Replay, Spell, Pieces}
 use Rattle.stream.specs.Stream.{Responds, Responses, After, Goes, One, Finishes}
 
 -- No response is longer than the room that is kept for one.
-pub responds-short : (p : Program) (l t : List ℕ) → Responds p l t → length t ≤ 512
-responds-short Answers l t r = line-short l t r
-responds-short Replay l t r = compares-short l t r
-responds-short Spell l t r = rw r (spelled-short l)
+pub responds-short : (p : Program) (l t : List ℕ) → Responds p l t → length t ≤ 16384
+responds-short Answers l t r = omega (arith, line-short l t r)
+responds-short Replay l t r = omega (arith, compares-short l t r)
+responds-short Spell l t r = rw r (omega (arith, spelled-short l))
+responds-short Pieces l t r = says-short l t r
 
 -- A response to the first bytes of a line is a response to the line: no program takes a line that long.
 responds-clip : (p : Program) (limit : ℕ) (l t : List ℕ) → 1024 ≤ limit → Responds p (clip limit l) t → Responds p l t
 responds-clip Answers limit l t h r = record { answer = r .answer; answers = answers-clip true limit l (r .answer) (omega arith) (r .answers); ends = r .ends }
 responds-clip Replay limit l t h r = compares-clip limit l t h r
 responds-clip Spell limit l t h r = r ∙ spelled-clip limit l (omega arith)
+responds-clip Pieces limit l t h r = says-clip limit l t (omega arith) r
 
 -- One response more behind some others.
 responses-then : (p : Program) (ls : List (List ℕ)) (l t u : List ℕ) → Responses p ls t → Responds p l u → Responses p (ls ++ l ∷ []) (t ++ u)

@@ -5,17 +5,19 @@ use mathlib.Core.Path.{_≡_, sym, ap, ap₂, _∙_}
 use lib.ListN.{length, take, drop}
 use Rattle.reply.proofs.Once.{line-once}
 use Rattle.samples.proofs.Once.{line-once as compared-once}
+use Rattle.cuts.proofs.Once.{line-once as said-once}
 use Rattle.lines.specs.Lines.{split, lines, between}
 use Rattle.text.specs.Text.{Output, output, Puts}
 use Rattle.stream.specs.declared.Reached.{Reached}
 use Rattle.stream.specs.declared.Program.{Program}
-use Rattle.stream.specs.declared.Program.the-variants.{Answers, Replay, Spell}
+use Rattle.stream.specs.declared.Program.the-variants.{Answers, Replay, Spell, Pieces}
 use Rattle.stream.specs.Stream.{Responds, Responses, After, Steps, Finishes}
 
 pub responds-once : (p : Program) (l t u : List ℕ) → Responds p l t → Responds p l u → t ≡ u
 responds-once Answers l t u a b = line-once l t u a b
 responds-once Replay l t u a b = compared-once l t u a b
 responds-once Spell l t u a b = a ∙ sym b
+responds-once Pieces l t u a b = said-once l t u a b
 
 pub responses-once : (p : Program) (ls : List (List ℕ)) (t u : List ℕ) → Responses p ls t → Responses p ls u → t ≡ u
 responses-once p [] t u a b = a ∙ sym b

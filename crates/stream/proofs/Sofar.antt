@@ -54,7 +54,7 @@ module _ (p : Program) (held : ℕ) (block : List ℕ) (from : ℕ) (kept₀ out
         fresh = λ h. refl;
       }
 
-  pub goes-on : {kept out kept′ out′ : List ℕ} {now used at : ℕ} {r : Reached} → Sofar kept out now used at → used < length block → at + 512 ≤ length out
+  pub goes-on : {kept out kept′ out′ : List ℕ} {now used at : ℕ} {r : Reached} → Sofar kept out now used at → used < length block → at + 16384 ≤ length out
       → One p now block used kept out at kept′ out′ r → Sofar kept′ out′ (r .held) (r .used) (r .at)
   goes-on {kept} {out} {kept′} {out′} {now} {used} {at} {r} s more free o =
       let whole = puts-fits (o .puts) (omega (arith, o .short)) in
@@ -74,7 +74,7 @@ module _ (p : Program) (held : ℕ) (block : List ℕ) (from : ℕ) (kept₀ out
         fresh = λ h. absurd (omega (arith, m .some more, s .on));
       }
 
-  pub stops-short : {kept out : List ℕ} {now used at : ℕ} → Sofar kept out now used at → length out < at + 512 → Steps p held block from kept₀ out₀ kept out (record { held = now; used = used; at = at })
+  pub stops-short : {kept out : List ℕ} {now used at : ℕ} → Sofar kept out now used at → length out < at + 16384 → Steps p held block from kept₀ out₀ kept out (record { held = now; used = used; at = at })
   stops-short s short =
       record {
         text = s .text;

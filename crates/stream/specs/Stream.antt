@@ -9,8 +9,9 @@ use Rattle.text.specs.Text.{Puts}
 use Rattle.reply.specs.Line.{AnswersLine}
 use Rattle.samples.specs.Samples.{ComparesLine}
 use Rattle.spellings.specs.Said.{spelledLine}
+use Rattle.cuts.specs.Cuts.{SaysLine}
 use Rattle.stream.specs.declared.Program.{Program}
-use Rattle.stream.specs.declared.Program.the-variants.{Answers, Replay, Spell}
+use Rattle.stream.specs.declared.Program.the-variants.{Answers, Replay, Spell, Pieces}
 use Rattle.stream.specs.declared.Reached.{Reached}
 
 -- t is the response of a program to the line l
@@ -18,6 +19,7 @@ abbrev pub Responds : Program → List ℕ → List ℕ → Type 0
 Responds Answers l t = AnswersLine l t
 Responds Replay l t = ComparesLine l t
 Responds Spell l t = t ≡ spelledLine l
+Responds Pieces l t = SaysLine l t
 
 -- t is a response to the line l, and what others say of what stands behind it
 pub record First (p : Program) (l : List ℕ) (others : List ℕ → Type 0) (t : List ℕ) : Type 0 where
@@ -46,7 +48,7 @@ pub record One (p : Program) (held : ℕ) (block : List ℕ) (from : ℕ) (kept 
   pub text : List ℕ
   pub goes : Goes p (length kept) (between from (r .used) block) text (take held kept) (take (r .held) kept′)
   pub puts : Puts text out at out′ (r .at)
-  pub short : length text ≤ 512
+  pub short : length text ≤ 16384
   pub room : r .held ≤ length kept
   pub size : length kept′ ≡ length kept
   pub moves : Moves from (length block) (r .used)
@@ -61,9 +63,9 @@ pub record Steps (p : Program) (held : ℕ) (block : List ℕ) (from : ℕ) (kep
   -- all of the block is used, or there is no room for one response more
   pub used : from ≤ r .used
   pub within : r .used ≤ from + (length block - from)
-  pub stops : (r .used ≡ from + (length block - from)) ⊎ (length out < r .at + 512)
+  pub stops : (r .used ≡ from + (length block - from)) ⊎ (length out < r .at + 16384)
   -- with room for one response some of the block is used
-  pub more : 512 ≤ length out → from < length block → from < r .used
+  pub more : 16384 ≤ length out → from < length block → from < r .used
 
 -- at the end of the input the last line counts where it is not empty
 pub record Finishes (p : Program) (held : ℕ) (kept out out′ : List ℕ) (r : ℕ) : Type 0 where

@@ -13,13 +13,14 @@ pub enum Program {
     Answers,
     Replay,
     Spell,
+    Pieces,
 }
 
 // No program takes a line of so many bytes, so that of a longer one these are enough. A buffer for what is held has at least as many.
 pub const LIMIT: usize = 1024;
 
 // As much as any response takes, or more.
-pub const ROOM: usize = 512;
+pub const ROOM: usize = 16384;
 
 // What is held of a line that no byte 10 has ended yet, how far a block is used, and the place behind what was put.
 pub struct Reached {
@@ -36,6 +37,7 @@ pub fn respond(program: Program, line: &[u8], out: &mut [u8], at: usize) -> usiz
         Program::Answers => reply::answer_line(line, out, at),
         Program::Replay => samples::compare_line(line, out, at),
         Program::Spell => spellings::spell_line(line, out, at),
+        Program::Pieces => cuts::pieces_line(line, out, at),
     }
 }
 
@@ -55,7 +57,7 @@ fn one_line(
     out: &mut [u8],
     at: usize,
 ) -> Reached
-    requires { ⌜ (held ≤ length (now kept)) × (at + 512 ≤ length (now out)) ⌝ }
+    requires { ⌜ (held ≤ length (now kept)) × (at + 16384 ≤ length (now out)) ⌝ }
     ensures { λ r. ⌜ One program held (now (block .entry)) from (now (kept .entry)) (now (out .entry)) at (now (kept .exit)) (now (out .exit)) r ⌝ }
 {
     let taken = lines::take_line(kept, held, block, from);

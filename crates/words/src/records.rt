@@ -22,7 +22,8 @@ fn four(a: Word, b: Word, c: Word, d: Word) -> [Word; 9]
     [a, b, c, d, no, no, no, no, no]
 }
 
-fn verdict_word(verdict: Verdict) -> Word
+// settled, open
+pub fn verdict_word(verdict: Verdict) -> Word
     ensures { λ r. ⌜ r ≡ verdictWord verdict ⌝ }
 {
     match verdict {

@@ -30,7 +30,7 @@ serve-spec =
     (λ c. search needs) (λ c. search needs) (λ c. search needs)
     (λ c.
     let turn = c .before .before .before .before .before .before .before .before .before .before .before .loop in
-    let room : 512 ≤ length (turn .out) = omega (arith, c .before .before .before .before .before .before .before .before .before .before .before .before .before .before .before .pre, turn .inv .out-size) in
+    let room : 16384 ≤ length (turn .out) = omega (arith, c .before .before .before .before .before .before .before .before .before .before .before .before .before .before .before .pre, turn .inv .out-size) in
     omega (arith, c .before .before .before .before .before .before .before .step .ensures .more room (c .before .before .before .before .before .before .before .before .before .before .loop-test .taken), c .before .before .before .before .before .before .before .before .before .before .loop-test .taken))
     (λ c. goes-along _ _ _ _ _ (c .before .before .before .before .before .before .before .before .before .before .before .loop .inv) (c .before .before .before .before .before .before .before .before .before .before .loop-test .taken) (c .before .before .before .before .before .before .before .step .ensures))
     (λ c. search needs) (λ c. search needs)

@@ -1,0 +1,77 @@
+-- What is said of a line is not long, and what is said of a line's first bytes is said of the line.
+use Prim.Native.Nat.{ℕ, _+_, _*_, _≤_, _<_}
+use mathlib.Core.List.{List, [], _∷_, _++_}
+use mathlib.Core.Bool.{Bool, true, false}
+use mathlib.Core.Path.{_≡_, refl}
+use native.Mathlib.Omega.{arith}
+use lib.Dec.{leb, eqb}
+use lib.ListN.{length, take, drop, length-append, length-drop}
+use lib.Seq.{take-all, length-take-le}
+use borrow.Author.Tests.{leb-true, leb-false}
+use Rattle.types.specs.declared.Verdict.{Verdict}
+use Rattle.types.specs.declared.Verdict.the-variants.{Settled, Open}
+use Rattle.parser.specs.Reading.{pick}
+use Rattle.parser.specs.Answer.{Told, begun, ended}
+use Rattle.kinds.specs.declared.answer.Kind.{Kind}
+use Rattle.kinds.specs.declared.answer.Record.{Record}
+use Rattle.kinds.specs.declared.answer.Letter.{Letter}
+use Rattle.kinds.specs.declared.answer.Letter.the-variants.{Names, Unknown}
+use Rattle.kinds.specs.Kinds.{ruleOf}
+use Rattle.words.specs.Words.{lettersOf, wordText}
+use Rattle.words.specs.Records.{verdictWord}
+use Rattle.reply.specs.Line.{recordOrDash, questionOf}
+use Rattle.reply.proofs.Asked.{names-short, long-unknown}
+use Rattle.reply.proofs.Short.{digits-short, text-short, record-few}
+use Rattle.cuts.specs.Cuts.{pieces, bars, begunText, endText, SaysOf, SaysTo, Says, SaysLine}
+use Rattle.cuts.proofs.Pinned.{pieces-counted}
+
+-- each byte could be a `|`
+bars-few : (s : List ℕ) → bars s ≤ length s
+bars-few [] = omega arith
+bars-few (b ∷ s) = step (eqb b 124) (bars-few s)
+  where
+    step : (t : Bool) → bars s ≤ length s → pick t (1 + bars s) (bars s) ≤ length (b ∷ s)
+    step true h = omega arith
+    step false h = omega arith
+
+verdict-short : (v : Verdict) → length (wordText (verdictWord v)) ≤ 8
+unfolding lettersOf
+verdict-short Settled = omega arith
+verdict-short Open = omega arith
+
+begun-short : (t : Told Record) (v : Verdict) → length (begunText t v) ≤ 52
+begun-short t v = simp length-append (omega (arith, digits-short 20 (t .number), digits-short 20 (t .count), verdict-short v))
+
+end-short : (whole last : Told Record) → length (endText whole last) ≤ 300
+end-short whole last =
+    let words = recordOrDash (last .value) in
+    simp length-append (omega (arith, digits-short 20 (whole .number), digits-short 20 (whole .count), text-short words, record-few (last .value)))
+
+said-short : (k : Kind) (ps : List (List ℕ)) (all t : List ℕ) → SaysOf k all ps t → length t ≤ 52 * length ps + 300
+said-short k [] all t e = rw e (end-short (ended (length all) (ruleOf k .reads all 0)) (begun (ruleOf k .reads all 0)))
+said-short k (p ∷ ps) all t a =
+    let one = begun-short (a .told) (a .verdict) in
+    let others = said-short k ps (all ++ p) (a .next) (a .behind) in
+    rw (a .says, length-append (begunText (a .told) (a .verdict)) (a .next)) (omega (arith, one, others))
+
+says-short : (l t : List ℕ) → Says l t → length t ≤ 16000
+unfolding lettersOf
+says-short l t a = go (questionOf l) refl a
+  where
+    go : (q : Letter) → questionOf l ≡ q → SaysTo q (drop 2 l) t → length t ≤ 16000
+    go (Names k) e a = omega (arith, said-short k (pieces (drop 2 l)) [] t a, pieces-counted (drop 2 l), bars-few (drop 2 l), length-drop 2 l, names-short l k e)
+    go Unknown e a = rw a (omega arith)
+
+pub line-short : (l t : List ℕ) → SaysLine l t → length t ≤ 16384
+line-short l t a = rw (a .ends, length-append (a .said) (10 ∷ [])) (omega (arith, says-short l (a .said) (a .says)))
+
+-- what is said of the first 203 bytes of a line, or more of them, is said of the line
+pub says-clip : (limit : ℕ) (l t : List ℕ) → 203 ≤ limit → SaysLine (take limit l) t → SaysLine l t
+says-clip limit l t h a = step (leb (length l) limit) refl
+  where
+    step : (b : Bool) → leb (length l) limit ≡ b → SaysLine l t
+    step true e = rw (take-all limit l (leb-true (length l) limit e)) at a
+    step false e =
+        let long : limit < length l = omega (arith, leb-false (length l) limit e) in
+        let clipped : 202 < length (take limit l) = rw (length-take-le limit l (omega arith)) (omega arith) in
+        record { said = a .said; says = rw (long-unknown l (omega arith)) (rw (long-unknown (take limit l) clipped) at (a .says)); ends = a .ends }

@@ -1,0 +1,5 @@
+pub mod Cutting
+pub mod Laws
+pub mod Once
+pub mod Pinned
+pub mod Sofar
