@@ -1,7 +1,9 @@
 /* calls READER TEXT N: calls a reader N times on a text. With N = 0 it is called once, and what it answers is printed.
  * calls READER -TEXT N: the same, and each call is made of one on each beginning of the text, from no byte to all.
  * calls WRITER TEXT N: reads the text once, and calls a writer N times on what was read. With N = 0 it is called once, and has to
- * write that text. Exit status: 1 where it doesn't, 2 where the call can't be made. */
+ * write that text. Exit status: 1 where it doesn't, 2 where the call can't be made.
+ * calls COUNTER TEXT N: calls a function of pieces, or one that it is held against, N times on a text behind the letter of its kind, as
+ * sTEXT for a date-time. With N = 0 it is called once, and its count is printed. */
 #define _XOPEN_SOURCE 700
 #include <stdio.h>
 #include <stdlib.h>
@@ -13,6 +15,8 @@
 typedef uint32_t reader(const uint8_t *text, size_t length, int64_t *slots, size_t room);
 /* So is every writer. It finds what was read from slot 2 on, and leaves the length of its text in slot 0. */
 typedef uint32_t writer(int64_t *slots, size_t room, uint8_t *text, size_t length);
+/* A counter gives a count of bytes alone. */
+typedef size_t counter(uint8_t letter, const uint8_t *text, size_t length);
 
 #define PEERS(X)                                                                                                       \
     X(original_date) X(original_time) X(original_offset) X(original_datetime) X(original_duration)                     \
@@ -32,6 +36,8 @@ typedef uint32_t writer(int64_t *slots, size_t room, uint8_t *text, size_t lengt
     X(chrono_write_date, chrono_date, 2) X(chrono_write_time, chrono_time, 2) X(chrono_write_stamp, chrono_stamp, 2)   \
     X(time_write_date, time_date, 2) X(time_write_time, time_time, 2) X(time_write_stamp, time_stamp, 2)               \
     X(write_nothing, nothing, 2)
+#define COUNTERS(X)                                                                                                    \
+    X(tirozhbar_one_piece) X(tirozhbar_at_once) X(tirozhbar_byte_by_byte) X(tirozhbar_afresh)
 
 #define DECLARE(NAME) reader NAME;
 PEERS(DECLARE)
@@ -39,6 +45,8 @@ void peers_start(void);
 reader nothing;
 #define DECLARE_WRITER(NAME, READER, START) writer NAME;
 PEER_WRITERS(DECLARE_WRITER)
+#define DECLARE_COUNTER(NAME) counter NAME;
+COUNTERS(DECLARE_COUNTER)
 
 /* glibc's strptime, at the one form that each of these names. */
 static uint32_t by_strptime(const char *form, const uint8_t *text, int64_t *slots) {
@@ -56,6 +64,12 @@ STRPTIME(strptime_ordinal, "%Y-%j")
 STRPTIME(strptime_time, "%H:%M:%S")
 STRPTIME(strptime_datetime, "%Y-%m-%dT%H:%M:%S")
 
+/* A counter that does nothing: what its call costs by itself. It is called through the table alone, so the call is made. */
+static size_t count_nothing(uint8_t letter, const uint8_t *text, size_t length) {
+    (void)letter, (void)text, (void)length;
+    return 0;
+}
+
 #define ROW(NAME) {#NAME, NAME},
 static const struct {
     const char *name;
@@ -70,6 +84,11 @@ static const struct {
     reader *reader;
     size_t start;
 } writers[] = {OUR_WRITERS(WRITER_ROW) PEER_WRITERS(WRITER_ROW)};
+
+static const struct {
+    const char *name;
+    counter *counter;
+} counters[] = {COUNTERS(ROW) ROW(count_nothing)};
 
 enum { ROOM = 64 };
 static int64_t slots[ROOM];
@@ -114,6 +133,16 @@ static int write_text(writer *write, reader *read, size_t start, const char *tex
     return 0;
 }
 
+static int count_text(counter *count, const char *text, long n) {
+    if (!text[0]) return 2;
+    uint8_t letter = (uint8_t)text[0];
+    const uint8_t *bytes = (const uint8_t *)text + 1;
+    size_t length = strlen(text + 1);
+    if (n == 0) printf("%zu\n", count(letter, bytes, length));
+    for (long i = 0; i < n; i++) count(letter, bytes, length);
+    return 0;
+}
+
 int main(int argc, char **argv) {
     if (argc != 4) return 2;
     peers_start();
@@ -123,5 +152,7 @@ int main(int argc, char **argv) {
     for (size_t i = 0; i < sizeof writers / sizeof *writers; i++)
         if (!strcmp(argv[1], writers[i].name))
             return write_text(writers[i].writer, writers[i].reader, writers[i].start, argv[2], n);
+    for (size_t i = 0; i < sizeof counters / sizeof *counters; i++)
+        if (!strcmp(argv[1], counters[i].name)) return count_text(counters[i].counter, argv[2], n);
     return 2;
 }
