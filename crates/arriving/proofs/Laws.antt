@@ -7,7 +7,7 @@ use mathlib.Core.Path.{_≡_, refl, sym, ap, ap₂, _∙_}
 use native.Mathlib.Omega.{arith}
 use lib.ListN.{length, length-append}
 use lib.Seq.{length-take-le}
-use lib.Dec.{ltb, leb}
+use lib.Dec.{leb}
 use borrow.Author.Tests.{le-leb}
 use Rattle.types.specs.declared.Verdict.{Verdict}
 use Rattle.types.specs.declared.Verdict.the-variants.{Settled, Open}
@@ -24,8 +24,9 @@ use Rattle.kinds.proofs.Laws.{bounded}
 use Rattle.kinds.proofs.Once.{told-once, read-once, parsed-once}
 use Rattle.arriving.specs.declared.State.{State}
 use Rattle.arriving.specs.declared.Stepped.{Stepped}
-use Rattle.arriving.specs.Keeping.{joins, pushOne, pushes, started, stepped, textOf, carry, moved, foundIn, Answers, Ends}
+use Rattle.arriving.specs.Keeping.{pushOne, pushes, started, stepped, textOf, carry, moved, foundIn, Answers, Ends}
 use Rattle.arriving.specs.Pieces.{steps, accept, accepts, acceptedOf, Faithful, joinAll}
+use Rattle.arriving.proofs.Pushing.{one-kind}
 use Rattle.arriving.proofs.Moves.{over, over-kept, toldMoved, begun-moved, told-moved-once}
 use Rattle.arriving.proofs.Stands.{Stands, start-stands, pushes-stands}
 
@@ -51,14 +52,6 @@ pub reached : (k : Kind) (ps : List (List ℕ)) → Stands (steps (started k) ps
 reached k ps = steps-stand ps (started k) [] (start-stands k)
 
 -- the kind stays
-either-kind : (t : Bool) (a b : State) (k : Kind) → a .kind ≡ k → b .kind ≡ k → pick t a b .kind ≡ k
-either-kind true a b k e g = e
-either-kind false a b k e g = g
-
-one-kind : (st : State) (b : ℕ) → pushOne st b .kind ≡ st .kind
-unfolding pushOne
-one-kind st b = either-kind (ltb (st .len) 80) _ _ (st .kind) (either-kind (joins st b) _ _ (st .kind) refl refl) refl
-
 pushes-kind : (p : List ℕ) (st : State) → pushes st p .kind ≡ st .kind
 unfolding pushes
 pushes-kind [] st = refl

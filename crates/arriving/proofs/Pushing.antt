@@ -37,7 +37,7 @@ pick-same : {A : Type 0} (f : State → A) (x : A) (a b : State) (t : Bool) → 
 pick-same f x a b true p q = p
 pick-same f x a b false p q = q
 
-one-kind : (st : State) (b : ℕ) → pushOne st b .kind ≡ st .kind
+pub one-kind : (st : State) (b : ℕ) → pushOne st b .kind ≡ st .kind
 unfolding pushOne
 one-kind st b = pick-same (λ (so : State). so .kind) _ _ _ (ltb (st .len) 80) (pick-same (λ (so : State). so .kind) _ _ _ (joins st b) refl refl) refl
 

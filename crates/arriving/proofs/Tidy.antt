@@ -14,7 +14,8 @@ use Rattle.parser.specs.Reading.{pick, and}
 use Rattle.parser.specs.Digits.{isDigit, digits, runAt}
 use Rattle.parser.proofs.Fields.{true≢false, and-first, and-second}
 use Rattle.parser.proofs.Runs.{run-end}
-use Rattle.shortening.proofs.Trims.{zeros, fractions, isPoint, allDigits, fresh, Normal}
+use Rattle.shortening.specs.Points.{isPoint}
+use Rattle.shortening.proofs.Trims.{zeros, fractions, allDigits, fresh, Normal}
 use Rattle.shortening.proofs.Fractions.{point-no-digit}
 use Rattle.arriving.specs.Keeping.{nextMark}
 

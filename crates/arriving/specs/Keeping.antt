@@ -8,6 +8,7 @@ use lib.Dec.{ltb, leb, eqb}
 use Rattle.parser.specs.Reading.{Found, no, got, stop, pick, or, and}
 use Rattle.parser.specs.Digits.{isDigit}
 use Rattle.parser.specs.Answer.{begun, ended, Judged}
+use Rattle.shortening.specs.Points.{isPoint}
 use Rattle.kinds.specs.declared.answer.Kind.{Kind}
 use Rattle.kinds.specs.declared.answer.Kind.the-variants as kind
 use Rattle.kinds.specs.declared.answer.Record.{Record}
@@ -17,16 +18,13 @@ use Rattle.kinds.specs.Kinds.{ruleOf, bound, told}
 use Rattle.arriving.specs.declared.State.{State}
 use Rattle.arriving.specs.declared.Stepped.{Stepped}
 
--- what is dropped: the leading zeros of a duration's runs; elsewhere the fraction's digits past the ninth
+-- what is dropped: the leading zeros of a duration's runs; elsewhere the fraction's digits past the tenth
 abbrev pub dropsZeros : Kind → Bool
 dropsZeros kind.Date = false
 dropsZeros kind.Time = false
 dropsZeros kind.Offset = false
 dropsZeros kind.Stamp = false
 dropsZeros kind.Duration = true
-
-abbrev pub isPoint : ℕ → Bool
-isPoint b = or (eqb b 44) (eqb b 46)
 
 -- What the kept bytes end in. Where zeros are dropped: 1, no digit (or nothing at all); 11, a 0 behind no digit; 0, any other digit.
 -- Where fraction digits are: 1 and as many as there are digits behind a comma or point, up to ten; 0, none of these.

@@ -6,11 +6,9 @@
 ghost use Prim.Native.Nat.{_+_, _<_, _≤_, min, max};
 ghost use mathlib.Core.Path.{_≡_};
 ghost use lib.ListN.{length, drop};
-ghost use lib.Dec.{ltb};
-ghost use Rattle.parser.specs.Reading.{pick};
 ghost use Rattle.parser.specs.Digits.{isDigit};
-ghost use Rattle.kinds.specs.Kinds.{told};
-ghost use Rattle.arriving.specs.Keeping.{dropsZeros, isPoint, joined, joinsTo, nextMark, zeroRun, pushes, started, stepped, carry, Answers, Ends};
+ghost use Rattle.shortening.specs.Points.{isPoint};
+ghost use Rattle.arriving.specs.Keeping.{dropsZeros, joined, joinsTo, nextMark, zeroRun, pushes, started, stepped, Answers, Ends};
 use kinds::answer::Answer;
 use kinds::answer::Kind;
 use kinds::answer::Read;

@@ -1,18 +1,17 @@
 -- What the functions stand on: the greatest count of one beginning more, the letter's kind, and a byte that is accepted.
 use Prim.Native.Nat.{ℕ, _+_, _-_, _<_, max}
-use mathlib.Core.List.{List, [], _++_}
+use mathlib.Core.List.{List}
 use mathlib.Core.Path.{_≡_, refl, sym, ap, _∙_}
 use native.Mathlib.Numerals.{add-one}
 use native.Mathlib.Omega.{arith}
 use lib.ListN.{length, take, drop, length-drop}
 use lib.Seq.{length-take-le, take-add}
 use borrow.Author.Tests.{le-leb}
-use Rattle.parser.specs.Answer.{begun}
 use Rattle.kinds.specs.declared.answer.Kind.{Kind}
 use Rattle.kinds.specs.declared.answer.Letter.{Letter}
 use Rattle.kinds.specs.declared.answer.Letter.the-variants.{Names, Unknown}
 use Rattle.kinds.specs.declared.answer.Read.{Read}
-use Rattle.kinds.specs.Kinds.{letterOf, told, Reads}
+use Rattle.kinds.specs.Kinds.{letterOf, told}
 use Rattle.arriving.specs.declared.State.{State}
 use Rattle.arriving.specs.Keeping.{stepped, Answers}
 use Rattle.arriving.specs.Pieces.{accept}

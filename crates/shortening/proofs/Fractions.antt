@@ -14,10 +14,11 @@ use Rattle.parser.specs.Digits.{isDigit, digitsFrom, digitsMore, field, digits,
 use Rattle.parser.specs.Fields.{either}
 use Rattle.parser.proofs.Fields.{true≢false, and-first, and-second}
 use Rattle.parser.proofs.Places.{no≢got, got-place, Bounded, seq-bounded, alt-bounded, lit-bounded, fraction-bounded, fraction-foreign, field-bounded, field-foreign}
+use Rattle.shortening.specs.Points.{isPoint}
 use Rattle.shortening.proofs.Cuts.{Cut, whole, kept, behind, Carried, Simulates}
 use Rattle.shortening.proofs.Local.{Local, lit-local, field-local, fraction-local, alt-local, seq-local}
 use Rattle.shortening.proofs.Spans.{Spans}
-use Rattle.shortening.proofs.Trims.{fractions, FractionCut, cut, isPoint, allDigits, Normal, Trims, same-before, simulates-by, foreign-simulates}
+use Rattle.shortening.proofs.Trims.{fractions, FractionCut, cut, allDigits, Normal, Trims, same-before, simulates-by, foreign-simulates}
 
 -- ---- fields
 

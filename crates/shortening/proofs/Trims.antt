@@ -9,12 +9,13 @@ use native.Mathlib.Omega.{arith}
 use lib.ListN.{length, getD}
 use lib.Dec.{ltb, eqb}
 use borrow.Author.Tests.{ltb-false, eqb-true, not-true}
-use Rattle.parser.specs.Reading.{Found, no, got, stop, Reader, lit, seq, opt, alt, verify, map, give, pick, or, and}
+use Rattle.parser.specs.Reading.{Found, no, got, stop, Reader, lit, seq, opt, alt, verify, map, give, pick, and}
 use Rattle.parser.specs.Digits.{isDigit, runAt}
 use Rattle.parser.specs.Fields.{precededBy}
 use Rattle.parser.proofs.Fields.{true≢false}
 use Rattle.parser.proofs.Places.{no≢got, got-place, Bounded, Foreign, lit-bounded, lit-foreign}
 use Rattle.parser.proofs.Lawful.{most, told-apart}
+use Rattle.shortening.specs.Points.{isPoint}
 use Rattle.shortening.proofs.Cuts.{Cut, whole, kept, before, behind, Carried, Simulates, seq-simulates, opt-simulates, alt-simulates, verify-simulates, map-simulates, give-simulates}
 use Rattle.shortening.proofs.Local.{Local, local-behind, lit-local}
 use Rattle.shortening.proofs.Spans.{Spans, Within, seq-within, opt-within, alt-within, verify-within, map-within, give-within}
@@ -23,9 +24,6 @@ use Rattle.shortening.proofs.Spans.{Spans, Within, seq-within, opt-with
 pub data Family : Type 0 where
   zeros : Family
   fractions : Family
-
-abbrev pub isPoint : ℕ → Bool
-isPoint b = or (eqb b 44) (eqb b 46)
 
 abbrev pub allDigits : List ℕ → Bool
 allDigits [] = true
