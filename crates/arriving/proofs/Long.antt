@@ -6,24 +6,28 @@ use mathlib.Core.Path.{_≡_, refl, ap, _∙_}
 use native.Mathlib.Omega.{arith}
 use borrow.Author.Tests.{lt-leb}
 use Rattle.parser.specs.Reading.{got, lit, seq, opt, verify, map, give}
+use Rattle.parser.specs.Answer.{recorded, begun}
 use Rattle.parser.specs.Digits.{isDigit, digits, numberFrom, run}
 use Rattle.duration.specs.Rules.{part, durationBaseTime, durationTime, partsRule, duration}
 use Rattle.kinds.specs.declared.answer.Kind.the-variants as kind
 use Rattle.kinds.specs.declared.answer.Record.{Record}
 use Rattle.kinds.specs.declared.answer.Record.the-variants as record-of
-use Rattle.kinds.specs.Kinds.{ruleOf}
+use Rattle.kinds.specs.declared.answer.Read.{Read}
+use Rattle.kinds.specs.Kinds.{ruleOf, told}
 use Rattle.shortening.proofs.Trims.{ZeroCut, zeros, cut}
 use Rattle.shortening.proofs.Rules.{trims}
-use Rattle.arriving.specs.Keeping.{moved}
+use Rattle.arriving.specs.Keeping.{started, moved, Answers}
+use Rattle.arriving.specs.Pieces.{steps, acceptedOf}
 use Rattle.arriving.proofs.Moves.{shift}
 use Rattle.arriving.proofs.Joined.{simulated}
+use Rattle.arriving.proofs.Laws.{faithful}
 
 -- so many zeros and `1Y`
-abbrev zerosAndOne : ℕ → List ℕ
+abbrev pub zerosAndOne : ℕ → List ℕ
 zerosAndOne zero = 49 ∷ 89 ∷ []
 zerosAndOne (suc n) = 48 ∷ zerosAndOne n
 
-abbrev oneYear : Record
+abbrev pub oneYear : Record
 oneYear = record-of.Duration (record { years = 1; months = 0; weeks = 0; days = 0; hours = 0; minutes = 0; seconds = 0 })
 
 one-year : ruleOf kind.Duration .reads (80 ∷ 49 ∷ 89 ∷ []) 0 ≡ got oneYear 3
@@ -38,3 +42,7 @@ pub long-zeros : (n : ℕ) → ruleOf kind.Duration .reads (80 ∷ zerosAndOne n
 long-zeros zero = one-year
 long-zeros (suc zero) = zero-more 49 (89 ∷ []) refl ∙ ap (moved (shift 1)) one-year
 long-zeros (suc (suc n)) = zero-more 48 (zerosAndOne n) refl ∙ ap (moved (shift 1)) (long-zeros (suc n)) ∙ ap (got oneYear) (rw (lt-leb (suc n + 3) 1 (omega arith)) (omega arith))
+
+-- so after any pieces that make such a text the answer has its whole count
+pub long-counted : (n : ℕ) (ps : List (List ℕ)) → acceptedOf ps ≡ 80 ∷ zerosAndOne n → (r : Read) → Answers (steps (started kind.Duration) ps) r → told (r .answer) ≡ recorded oneYear (n + 3)
+long-counted n ps e r a = faithful kind.Duration ps .answers r a .answer ∙ ap begun (ap (λ (s : List ℕ). ruleOf kind.Duration .reads s 0) e ∙ long-zeros n)
