@@ -10,7 +10,7 @@ use lib.Seq.{take-all, length-take-le}
 use borrow.Author.Tests.{leb-true, leb-false}
 use Rattle.types.specs.declared.Verdict.{Verdict}
 use Rattle.types.specs.declared.Verdict.the-variants.{Settled, Open}
-use Rattle.parser.specs.Reading.{pick}
+use Rattle.lines.specs.Lines.{pick, after, onto, splitBy}
 use Rattle.parser.specs.Answer.{Told, begun, ended}
 use Rattle.kinds.specs.declared.answer.Kind.{Kind}
 use Rattle.kinds.specs.declared.answer.Record.{Record}
@@ -22,17 +22,21 @@ use Rattle.words.specs.Records.{verdictWord}
 use Rattle.reply.specs.Line.{recordOrDash, questionOf}
 use Rattle.reply.proofs.Asked.{names-short, long-unknown}
 use Rattle.reply.proofs.Short.{digits-short, text-short, record-few}
-use Rattle.cuts.specs.Cuts.{pieces, bars, begunText, endText, SaysOf, SaysTo, Says, SaysLine}
-use Rattle.cuts.proofs.Pinned.{pieces-counted}
+use Rattle.cuts.specs.Cuts.{pieces, begunText, endText, SaysOf, SaysTo, Says, SaysLine}
+use Rattle.lines.proofs.Pinned.{onto-length}
 
 -- each byte could be a `|`
-bars-few : (s : List ℕ) → bars s ≤ length s
-bars-few [] = omega arith
-bars-few (b ∷ s) = step (eqb b 124) (bars-few s)
+parts-few : (s : List ℕ) → length (splitBy 124 s .finished) ≤ length s
+unfolding splitBy
+parts-few [] = omega arith
+parts-few (b ∷ s) = step (eqb b 124) (parts-few s)
   where
-    step : (t : Bool) → bars s ≤ length s → pick t (1 + bars s) (bars s) ≤ length (b ∷ s)
+    step : (t : Bool) → length (splitBy 124 s .finished) ≤ length s → length (pick t (after [] (splitBy 124 s)) (onto (b ∷ []) (splitBy 124 s)) .finished) ≤ length (b ∷ s)
     step true h = omega arith
-    step false h = omega arith
+    step false h = omega (arith, onto-length b (splitBy 124 s .finished) (splitBy 124 s .rest))
+
+pieces-few : (s : List ℕ) → length (pieces s) ≤ length s + 1
+pieces-few s = omega (arith, length-append (splitBy 124 s .finished) (splitBy 124 s .rest ∷ []), parts-few s)
 
 verdict-short : (v : Verdict) → length (wordText (verdictWord v)) ≤ 8
 unfolding lettersOf
@@ -59,7 +63,7 @@ unfolding lettersOf
 says-short l t a = go (questionOf l) refl a
   where
     go : (q : Letter) → questionOf l ≡ q → SaysTo q (drop 2 l) t → length t ≤ 16000
-    go (Names k) e a = omega (arith, said-short k (pieces (drop 2 l)) [] t a, pieces-counted (drop 2 l), bars-few (drop 2 l), length-drop 2 l, names-short l k e)
+    go (Names k) e a = omega (arith, said-short k (pieces (drop 2 l)) [] t a, pieces-few (drop 2 l), length-drop 2 l, names-short l k e)
     go Unknown e a = rw a (omega arith)
 
 pub line-short : (l t : List ℕ) → SaysLine l t → length t ≤ 16384

@@ -1,5 +1,4 @@
 pub mod Cutting
 pub mod Laws
 pub mod Once
-pub mod Pinned
 pub mod Sofar

@@ -1,17 +1,16 @@
 -- What `pieces` prints for a line.
-use Prim.Native.Nat.{ℕ, _+_}
+use Prim.Native.Nat.{ℕ}
 use mathlib.Core.List.{List, [], _∷_, _++_}
 use mathlib.Core.Path.{_≡_}
-use lib.Dec.{eqb}
 use lib.ListN.{length, drop}
 use Rattle.types.specs.declared.Verdict.{Verdict}
-use Rattle.parser.specs.Reading.{pick}
 use Rattle.parser.specs.Answer.{Told, begun, ended, Begins}
 use Rattle.kinds.specs.declared.answer.Kind.{Kind}
 use Rattle.kinds.specs.declared.answer.Record.{Record}
 use Rattle.kinds.specs.declared.answer.Letter.{Letter}
 use Rattle.kinds.specs.declared.answer.Letter.the-variants.{Names, Unknown}
 use Rattle.kinds.specs.Kinds.{ruleOf, bound}
+use Rattle.lines.specs.Lines.{Split, splitBy}
 use Rattle.text.specs.Text.{decimal}
 use Rattle.words.specs.declared.word.Name.the-variants as name
 use Rattle.words.specs.declared.word.Word.the-variants.{Number}
@@ -19,25 +18,13 @@ use Rattle.words.specs.Words.{lettersOf, textOf}
 use Rattle.words.specs.Records.{verdictWord}
 use Rattle.reply.specs.Line.{recordOrDash, questionOf}
 
--- "The text is cut into pieces by byte 124 (`|`)": one piece more than there are such bytes
-abbrev pub ontoFirst : ℕ → List (List ℕ) → List (List ℕ)
-ontoFirst b [] = (b ∷ []) ∷ []
-ontoFirst b (p ∷ ps) = (b ∷ p) ∷ ps
+-- "The text is cut into pieces by byte 124 (`|`)": the parts that such a byte ends, and the rest behind the last. That a split is right is
+-- proved of lines for any byte: put together again its parts are the text (`joined-by`), and none has the byte in it (`free-by`).
+abbrev pub piecesOf : Split → List (List ℕ)
+piecesOf p = p .finished ++ p .rest ∷ []
 
-unfoldable pub pieces : List ℕ → List (List ℕ)
-pieces [] = [] ∷ []
-pieces (b ∷ s) = pick (eqb b 124) ([] ∷ pieces s) (ontoFirst b (pieces s))
-
--- That these are the right pieces, and no others are, is pinned by two facts of any text (`proofs/Pinned.antt`): joined by `|` they are the text
--- again, and there is one more than there are bytes `|` in it.
-abbrev pub joinedByBar : List (List ℕ) → List ℕ
-joinedByBar [] = []
-joinedByBar (p ∷ []) = p
-joinedByBar (p ∷ q ∷ ps) = p ++ 124 ∷ joinedByBar (q ∷ ps)
-
-abbrev pub bars : List ℕ → ℕ
-bars [] = 0
-bars (b ∷ s) = pick (eqb b 124) (1 + bars s) (bars s)
+abbrev pub pieces : List ℕ → List (List ℕ)
+pieces s = piecesOf (splitBy 124 s)
 
 -- "`B COUNT VERDICT`, each followed by ` | `"
 abbrev pub begunText : Told Record → Verdict → List ℕ

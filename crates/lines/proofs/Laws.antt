@@ -10,7 +10,7 @@ use lib.ListN.{length, take, drop, length-append, length-take, length-drop}
 use lib.Seq.{take-all, take-append-seam, drop-drop}
 use borrow.Author.Tests.{eqb-true, eqb-false, ne-eqb}
 use Rattle.lines.specs.declared.Ended.the-variants.{At, Open}
-use Rattle.lines.specs.Lines.{pick, Split, after, onto, split, lines, joined, Free, EachFree}
+use Rattle.lines.specs.Lines.{pick, Split, after, onto, splitBy, split, lines, joinedWith, joined, FreeOf, EachFreeOf, Free, EachFree}
 use Rattle.lines.specs.Lines.{placeFrom, placeOf, endAt, clip, between, partOf, behind, isEnd, Takes, Holds, GoesOn, Moves}
 use Rattle.lines.specs.declared.Ended.{Ended}
 use Rattle.lines.specs.declared.Taken.{Taken}
@@ -18,34 +18,40 @@ use Rattle.text.proofs.Laws.{puts-clips}
 
 -- The parts of a split, put together again, are the input.
 
-joined-onto : (a : List ℕ) (ls : List (List ℕ)) (r : List ℕ)
-    → joined (onto a (record { finished = ls; rest = r })) ≡ a ++ joined (record { finished = ls; rest = r })
-joined-onto a [] r = refl
-joined-onto a (l ∷ ls) r = append-assoc a l _
+joined-onto : (c : ℕ) (a : List ℕ) (ls : List (List ℕ)) (r : List ℕ)
+    → joinedWith c (onto a (record { finished = ls; rest = r })) ≡ a ++ joinedWith c (record { finished = ls; rest = r })
+joined-onto c a [] r = refl
+joined-onto c a (l ∷ ls) r = append-assoc a l _
+
+pub joined-by : (c : ℕ) (s : List ℕ) → joinedWith c (splitBy c s) ≡ s
+unfolding splitBy
+joined-by c [] = refl
+joined-by c (b ∷ s) = step (eqb b c) refl (joined-by c s)
+  where
+    step : (t : Bool) → eqb b c ≡ t → joinedWith c (splitBy c s) ≡ s → joinedWith c (splitBy c (b ∷ s)) ≡ b ∷ s
+    step true e h = rw (e, eqb-true b c e) (ap (λ (l : List ℕ). c ∷ l) h)
+    step false e h = rw e (joined-onto c (b ∷ []) (splitBy c s .finished) (splitBy c s .rest) ∙ ap (λ (l : List ℕ). b ∷ l) h)
 
 pub joined-split : (s : List ℕ) → joined (split s) ≡ s
-unfolding split
-joined-split [] = refl
-joined-split (b ∷ s) = step (eqb b 10) refl (joined-split s)
-  where
-    step : (t : Bool) → eqb b 10 ≡ t → joined (split s) ≡ s → joined (split (b ∷ s)) ≡ b ∷ s
-    step true e h = rw (e, eqb-true b 10 e) (ap (λ (l : List ℕ). 10 ∷ l) h)
-    step false e h = rw e (joined-onto (b ∷ []) (split s .finished) (split s .rest) ∙ ap (λ (l : List ℕ). b ∷ l) h)
+joined-split s = joined-by 10 s
 
--- No part of a split has a byte 10 in it.
+-- No part of a split has the byte in it that ends parts.
 
-pub split-free : (s : List ℕ) → EachFree (split s .finished) × Free (split s .rest)
-unfolding split
-split-free [] = (tt, tt)
-split-free (b ∷ s) = step (eqb b 10) refl (split s .finished) (split s .rest) (split-free s)
+pub free-by : (c : ℕ) (s : List ℕ) → EachFreeOf c (splitBy c s .finished) × FreeOf c (splitBy c s .rest)
+unfolding splitBy
+free-by c [] = (tt, tt)
+free-by c (b ∷ s) = step (eqb b c) refl (splitBy c s .finished) (splitBy c s .rest) (free-by c s)
   where
-    step : (t : Bool) → eqb b 10 ≡ t → (ls : List (List ℕ)) (r : List ℕ) → EachFree ls × Free r
+    step : (t : Bool) → eqb b c ≡ t → (ls : List (List ℕ)) (r : List ℕ) → EachFreeOf c ls × FreeOf c r
         → let p : Split = record { finished = ls; rest = r } in
         let q : Split = pick t (after [] p) (onto (b ∷ []) p) in
-        EachFree (q .finished) × Free (q .rest)
+        EachFreeOf c (q .finished) × FreeOf c (q .rest)
     step true e ls r h = ((tt, h .0), h .1)
-    step false e [] r h = (tt, (eqb-false b 10 e, h .1))
-    step false e (l ∷ ls) r h = (((eqb-false b 10 e, h .0 .0), h .0 .1), h .1)
+    step false e [] r h = (tt, (eqb-false b c e, h .1))
+    step false e (l ∷ ls) r h = (((eqb-false b c e, h .0 .0), h .0 .1), h .1)
+
+pub split-free : (s : List ℕ) → EachFree (split s .finished) × Free (split s .rest)
+split-free s = free-by 10 s
 
 -- Bytes with no byte 10 in them stand in front of the first line, or of the rest.
 
@@ -59,7 +65,7 @@ onto-cons b a [] r = refl
 onto-cons b a (l ∷ ls) r = refl
 
 pub split-onto : (a s : List ℕ) → Free a → split (a ++ s) ≡ onto a (split s)
-unfolding split
+unfolding splitBy
 split-onto [] s h = sym (onto-nil (split s .finished) (split s .rest))
 split-onto (b ∷ a) s h =
     rw (ne-eqb b 10 (h .0), split-onto a s (h .1)) (onto-cons b a (split s .finished) (split s .rest))
@@ -67,7 +73,7 @@ split-onto (b ∷ a) s h =
 -- So no other parts, put together, are the same input.
 pub split-joined : (ls : List (List ℕ)) (r : List ℕ) → EachFree ls → Free r
     → split (joined (record { finished = ls; rest = r })) ≡ record { finished = ls; rest = r }
-unfolding split
+unfolding splitBy
 split-joined [] r f g = rw (← append-nil r) (split-onto r [] g)
 split-joined (l ∷ ls) r f g = split-onto l _ (f .0) ∙ rw (split-joined ls r (f .1) g, append-nil l)
 
@@ -80,12 +86,12 @@ then p q = record { finished = p .finished ++ q .finished; rest = q .rest }
 then-onto : (b : ℕ) (s : List ℕ) → eqb b 10 ≡ false → (ls : List (List ℕ)) (r : List ℕ)
     → let p : Split = record { finished = ls; rest = r } in
     onto (b ∷ []) (then p (split (r ++ s))) ≡ then (onto (b ∷ []) p) (split (onto (b ∷ []) p .rest ++ s))
-unfolding split
+unfolding splitBy
 then-onto b s e [] r = rw e
 then-onto b s e (l ∷ ls) r = refl
 
 pub split-append : (a b : List ℕ) → split (a ++ b) ≡ then (split a) (split (split a .rest ++ b))
-unfolding split
+unfolding splitBy
 split-append [] b = refl
 split-append (x ∷ a) b = step (eqb x 10) refl (split-append a b)
   where
@@ -103,18 +109,18 @@ lines-append a b = rw (split-append a b) (append-assoc (split a .finished) _ _)
 at≢open : (end : ℕ) → At end ≡ Open → ⊥
 at≢open end h = let z : _≡_ {A = ℕ} 0 1 = cc in omega arith
 
-record Ends (at end : ℕ) (t : List ℕ) : Type 0 where
-  size : ℕ
-  place : end ≡ at + size
-  within : size < length t
-  splits : split t ≡ after (take size t) (split (drop (suc size) t))
+pub record Ends (c at end : ℕ) (t : List ℕ) : Type 0 where
+  pub size : ℕ
+  pub place : end ≡ at + size
+  pub within : size < length t
+  pub splits : splitBy c t ≡ after (take size t) (splitBy c (drop (suc size) t))
 
-endFrom-ends : (at end : ℕ) (t : List ℕ) → placeFrom 10 at t ≡ At end → Ends at end t
-unfolding split
-endFrom-ends at end [] h = absurd (at≢open end (sym h))
-endFrom-ends at end (b ∷ t) h = step (eqb b 10) refl (endFrom-ends (at + 1) end t)
+pub endFrom-ends : (c at end : ℕ) (t : List ℕ) → placeFrom c at t ≡ At end → Ends c at end t
+unfolding splitBy
+endFrom-ends c at end [] h = absurd (at≢open end (sym h))
+endFrom-ends c at end (b ∷ t) h = step (eqb b c) refl (endFrom-ends c (at + 1) end t)
   where
-    step : (u : Bool) → eqb b 10 ≡ u → (placeFrom 10 (at + 1) t ≡ At end → Ends (at + 1) end t) → Ends at end (b ∷ t)
+    step : (u : Bool) → eqb b c ≡ u → (placeFrom c (at + 1) t ≡ At end → Ends c (at + 1) end t) → Ends c at end (b ∷ t)
     step true e ih =
         let g : At at ≡ At end = rw e at h in
         let p : at ≡ end = cc in
@@ -123,13 +129,13 @@ endFrom-ends at end (b ∷ t) h = step (eqb b 10) refl (endFrom-ends (at + 1) en
         let o = ih (rw e at h) in
         record { size = suc (o .size); place = omega arith; within = omega arith; splits = rw (e, o .splits) }
 
-endFrom-open : (at : ℕ) (t : List ℕ) → placeFrom 10 at t ≡ Open → split t ≡ record { finished = []; rest = t }
-unfolding split
-endFrom-open at [] h = refl
-endFrom-open at (b ∷ t) h = step (eqb b 10) refl (endFrom-open (at + 1) t)
+pub endFrom-open : (c at : ℕ) (t : List ℕ) → placeFrom c at t ≡ Open → splitBy c t ≡ record { finished = []; rest = t }
+unfolding splitBy
+endFrom-open c at [] h = refl
+endFrom-open c at (b ∷ t) h = step (eqb b c) refl (endFrom-open c (at + 1) t)
   where
-    step : (u : Bool) → eqb b 10 ≡ u → (placeFrom 10 (at + 1) t ≡ Open → split t ≡ record { finished = []; rest = t })
-        → split (b ∷ t) ≡ record { finished = []; rest = b ∷ t }
+    step : (u : Bool) → eqb b c ≡ u → (placeFrom c (at + 1) t ≡ Open → splitBy c t ≡ record { finished = []; rest = t })
+        → splitBy c (b ∷ t) ≡ record { finished = []; rest = b ∷ t }
     step true e ih = absurd (at≢open at (rw e at h))
     step false e ih = rw (e, ih (rw e at h))
 
@@ -156,7 +162,7 @@ module _ (s : List ℕ) (at : ℕ) where
   pub end-within : (end : ℕ) → endAt s at ≡ At end → (at ≤ end) × (end < length s)
   unfolding placeOf
   end-within end h =
-      let o = endFrom-ends at end (drop at s) h in
+      let o = endFrom-ends 10 at end (drop at s) h in
       let l = length-drop at s in
       (omega arith, omega arith)
 
@@ -164,14 +170,14 @@ module _ (s : List ℕ) (at : ℕ) where
       → split (drop at s) ≡ after (take (end - at) (drop at s)) (split (drop (end + 1) s))
   unfolding placeOf
   split-end end h =
-      let o = endFrom-ends at end (drop at s) h in
+      let o = endFrom-ends 10 at end (drop at s) h in
       let line : end - at ≡ o .size = omega arith in
       let next : end + 1 ≡ at + suc (o .size) = omega arith in
       rw (line, next, ← drop-drop (suc (o .size)) at s) (o .splits)
 
   pub split-open : endAt s at ≡ Open → split (drop at s) ≡ record { finished = []; rest = drop at s }
   unfolding placeOf
-  split-open h = endFrom-open at (drop at s) h
+  split-open h = endFrom-open 10 at (drop at s) h
 
 -- A clipped rest loses nothing that a clipped line shows.
 
@@ -188,14 +194,14 @@ free-append (x ∷ a) b f g = (f .0, free-append a b (f .1) g)
 
 module _ (bytes x : List ℕ) (free : Free x) where
   goes-on : split (bytes ++ x) ≡ record { finished = split bytes .finished; rest = split bytes .rest ++ x }
-  unfolding split
+  unfolding splitBy
   goes-on =
       let line = split bytes .rest ++ x in
       let one = split-onto line [] (free-append (split bytes .rest) x (split-free bytes .1) free) in
       split-append bytes x ∙ rw (rw (append-nil line) at one, append-nil (split bytes .finished))
 
   line-ended : split (bytes ++ (x ++ 10 ∷ [])) ≡ record { finished = split bytes .finished ++ (split bytes .rest ++ x) ∷ []; rest = [] }
-  unfolding split
+  unfolding splitBy
   line-ended =
       let line = split bytes .rest ++ x in
       let one = split-onto line (10 ∷ []) (free-append (split bytes .rest) x (split-free bytes .1) free) in

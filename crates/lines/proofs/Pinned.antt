@@ -8,7 +8,7 @@ use native.Mathlib.Omega.{arith}
 use lib.Dec.{eqb}
 use lib.ListN.{length, length-append}
 use borrow.Author.Tests.{ne-eqb}
-use Rattle.lines.specs.Lines.{pick, after, onto, split, lastLine, lines, joined, Free, joinedBy10, lastEnd, tens, lastPiece}
+use Rattle.lines.specs.Lines.{pick, after, onto, splitBy, split, lastLine, lines, joined, Free, joinedBy10, lastEnd, tens, lastPiece}
 use Rattle.lines.proofs.Laws.{joined-split, split-free}
 
 -- the last byte of a line that is not empty is no byte 10
@@ -44,12 +44,12 @@ pub lines-joined : (s : List ℕ) → joinedBy10 (lines s) ++ lastEnd s ≡ s
 unfolding lines
 lines-joined s = rw (joined-split s) at (parts-joined (split s .rest) (split-free s .1) (split s .finished))
 
-onto-length : (b : ℕ) (ls : List (List ℕ)) (r : List ℕ) → length (onto (b ∷ []) (record { finished = ls; rest = r }) .finished) ≡ length ls
+pub onto-length : (b : ℕ) (ls : List (List ℕ)) (r : List ℕ) → length (onto (b ∷ []) (record { finished = ls; rest = r }) .finished) ≡ length ls
 onto-length b [] r = refl
 onto-length b (l ∷ ls) r = refl
 
 finished-tens : (s : List ℕ) → length (split s .finished) ≡ tens s
-unfolding split
+unfolding splitBy
 finished-tens [] = refl
 finished-tens (b ∷ s) = step (eqb b 10) (finished-tens s)
   where

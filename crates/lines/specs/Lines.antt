@@ -32,9 +32,13 @@ onto a p = front (p .finished)
     front [] = record { finished = []; rest = a ++ p .rest }
     front (l ∷ ls) = record { finished = (a ++ l) ∷ ls; rest = p .rest }
 
-unfoldable pub split : List ℕ → Split
-split [] = record { finished = []; rest = [] }
-split (b ∷ s) = pick (eqb b 10) (after [] (split s)) (onto (b ∷ []) (split s))
+-- the same of parts that a byte c ends
+unfoldable pub splitBy : ℕ → List ℕ → Split
+splitBy c [] = record { finished = []; rest = [] }
+splitBy c (b ∷ s) = pick (eqb b c) (after [] (splitBy c s)) (onto (b ∷ []) (splitBy c s))
+
+abbrev pub split : List ℕ → Split
+split s = splitBy 10 s
 
 -- a rest is a line where it is not empty
 abbrev pub lastLine : List ℕ → List (List ℕ)
@@ -47,21 +51,30 @@ lines s = split s .finished ++ lastLine (split s .rest)
 -- What makes a split right: put together, with a byte 10 behind each finished line, its parts are the input, and no part has a byte 10
 -- in it. That `split` gives such parts, and that no others are such, is proved in `proofs/Laws.antt`.
 
-abbrev pub joined : Split → List ℕ
-joined p = ended (p .finished)
+abbrev pub joinedWith : ℕ → Split → List ℕ
+joinedWith c p = ended (p .finished)
   where
     ended : List (List ℕ) → List ℕ
     ended [] = p .rest
-    ended (l ∷ ls) = l ++ 10 ∷ ended ls
+    ended (l ∷ ls) = l ++ c ∷ ended ls
 
--- no byte 10
+abbrev pub joined : Split → List ℕ
+joined p = joinedWith 10 p
+
+-- no byte c
+abbrev pub FreeOf : ℕ → List ℕ → Type 0
+FreeOf c [] = Unit {0}
+FreeOf c (b ∷ s) = (b ≡ c → ⊥) × FreeOf c s
+
+abbrev pub EachFreeOf : ℕ → List (List ℕ) → Type 0
+EachFreeOf c [] = Unit {0}
+EachFreeOf c (l ∷ ls) = FreeOf c l × EachFreeOf c ls
+
 abbrev pub Free : List ℕ → Type 0
-Free [] = Unit {0}
-Free (b ∷ s) = (b ≡ 10 → ⊥) × Free s
+Free s = FreeOf 10 s
 
 abbrev pub EachFree : List (List ℕ) → Type 0
-EachFree [] = Unit {0}
-EachFree (l ∷ ls) = Free l × EachFree ls
+EachFree ls = EachFreeOf 10 ls
 
 -- the place of the first byte c of s, whose first byte stands at `at`
 abbrev pub placeFrom : ℕ → ℕ → List ℕ → Ended
