@@ -10,15 +10,15 @@ use lib.IntN.{ℤ}
 use borrow.Author.Tests.{ltb-false, leb-true, leb-false, eqb-true}
 use Rattle.types.specs.declared.Date.{Date}
 use Rattle.types.specs.declared.Date.the-variants.{YMD}
-use Rattle.parser.specs.Reading.{Found, no, got, lit, seq, opt, lack, alt, map, mapFound, Says}
-use Rattle.parser.specs.Digits.{digit, reach, lowest, highest}
-use Rattle.parser.specs.Fields.{month, day, precededBy}
+use Rattle.parser.specs.Reading.{Found, no, got, lit, seq, alt, map, Says}
+use Rattle.parser.specs.Digits.{digit}
+use Rattle.parser.specs.Fields.{month, day}
 use Rattle.parser.proofs.Fields.{true≢false, OtherAt}
-use Rattle.parser.proofs.Says.{says-map, says-opt, says-seq-no, says-alt-no}
-use Rattle.date.specs.Rules.{dash, weekAndDay, wd, mdNumeric, ordinal, ddd, orFirst, dayOfMonth, monthAndDay, md}
+use Rattle.parser.proofs.Says.{says-seq-no, says-alt-no}
+use Rattle.date.specs.Rules.{dash, weekAndDay, wd, mdNumeric, ordinal, ddd, monthAndDay, md}
 use Rattle.parser.specs.Read.{placeAfter}
 use Rattle.date.specs.Answer.{afterYear}
-use Rattle.parser.proofs.General.{field-eager, SameFrom, same-says, preceded-same, after-same, alt-same, alt-drop, field-no, field-wrong, says-past}
+use Rattle.parser.proofs.General.{SameFrom, same-says, preceded-same, after-same, alt-same, alt-drop, field-no, field-wrong}
 use Rattle.date.proofs.Parts.{weekAndDay-item, ordinal-item}
 
 -- ---- what a dash tells, and a byte that is none
@@ -135,11 +135,3 @@ module _ (y : ℤ) (s : List ℕ) (at from : ℕ) (e : from ≡ placeAfter at (d
   says-week-cut w =
       let others = alt (mdNumeric y) (alt (ddd y) (md y)) in
       says-alt-no (wd y) s at others true no (others .more s at) (same-says week-same w) (record { found = sym (others-no (weekAndDay-open y s from (sym (w .more)))); more = refl })
-
--- ---- the dash before the day
-
-pub of-day : (s : List ℕ) (at from : ℕ) (f : Found ℕ) (m : Bool) → from ≡ placeAfter at (lit 45 .reads s at) → Says day s from f m → Says dayOfMonth s at (mapFound orFirst (lack at f)) m
-unfolding dayOfMonth reach lowest highest
-of-day s at from f m e h =
-    let p = precededBy 45 day in
-    says-map (opt p) s at orFirst _ m (says-opt p s at f m (says-past 45 day (field-eager 2 1 31 (omega arith) refl) s at from f m e h))

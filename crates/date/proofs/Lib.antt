@@ -1,3 +1,4 @@
 pub mod Parts
 pub mod Dash
+pub mod Dashed
 pub mod Laws

@@ -1,10 +1,12 @@
--- The code's answers as what the rules and the paper's table speak of, and what the code reads at one go.
+-- The code's answers as what the rules and the paper's table speak of, and what the code reads at one go or in fewer ways.
 use Prim.Native.Nat.{ℕ}
 use mathlib.Core.Bool.{Bool, true, false}
 use lib.IntN.{ℤ}
 use Rattle.types.specs.declared.Date.{Date}
-use Rattle.parser.specs.Reading.{Found, no, got, Reader, alt}
-use Rattle.date.specs.Rules.{wd, mdNumeric, ddd, md}
+use Rattle.types.specs.declared.Date.the-variants.{YMD}
+use Rattle.parser.specs.Reading.{Found, no, got, Reader, seq, opt, alt, map}
+use Rattle.parser.specs.Fields.{month, day}
+use Rattle.date.specs.Rules.{dash, orFirst, wd, mdNumeric, ddd, md}
 use Rattle.date.specs.declared.YearFound.{YearFound}
 use Rattle.date.specs.declared.YearFound.the-variants as year
 use Rattle.date.specs.declared.DayFound.{DayFound}
@@ -43,3 +45,14 @@ dateMore date.Cut = true
 -- what follows the year, which the code reads once for the four alternatives; `proofs/Laws.antt` shows that both read alike
 unfoldable pub afterYear : ℤ → Reader Date
 afterYear y = alt (wd y) (alt (mdNumeric y) (alt (ddd y) (md y)))
+
+-- rule 4 as the code reads it, "year, `-`, month, then optionally {`-`, day}": behind the year and its dash; `proofs/Dashed.antt`
+-- shows that the date's rule with it reads alike
+abbrev pub dashedDay : Reader ℕ
+dashedDay = seq dash (λ _. day)
+
+unfoldable pub dashedDayOfMonth : Reader ℕ
+dashedDayOfMonth = map orFirst (opt dashedDay)
+
+unfoldable pub monthAndDashedDay : ℤ → Reader Date
+monthAndDashedDay y = seq month (λ m. map (λ d. YMD y m d) dashedDayOfMonth)

@@ -5,8 +5,8 @@ ghost use mathlib.Core.Bool.{true};
 ghost use Rattle.parser.specs.Reading.{alt, Says};
 ghost use Rattle.parser.specs.Read.{placeAfter};
 ghost use Rattle.fields.specs.Read.{numberFound, numberMore};
-ghost use Rattle.date.specs.Rules.{digitsOfYear, year, dash, weekOfYear, week, dayOfWeek, weekAndDay, mdNumeric, dayOfYear, ordinal, dayOfMonth, monthAndDay, date};
-ghost use Rattle.date.specs.Answer.{yearFound, yearMore, dayFound, dayMore, dateFound, dateMore, afterYear};
+ghost use Rattle.date.specs.Rules.{digitsOfYear, year, dash, weekOfYear, week, dayOfWeek, weekAndDay, mdNumeric, dayOfYear, ordinal, monthAndDay, date};
+ghost use Rattle.date.specs.Answer.{yearFound, yearMore, dayFound, dayMore, dateFound, dateMore, afterYear, dashedDay, dashedDayOfMonth, monthAndDashedDay};
 use fields::Number;
 use parser::Mark;
 use parser::Signed;
@@ -198,12 +198,23 @@ fn date_yddd(s: &[u8], at: usize, year: i32) -> DateFound
     }
 }
 
-// [[-]DD], day 1 where absent
-fn day_of_month(s: &[u8], at: usize) -> DayFound
-    ensures { λ r. ⌜ Says dayOfMonth (now (s .entry)) at (dayFound r) (dayMore r) ⌝ }
+// -DD
+fn dashed_day(s: &[u8], at: usize) -> Number
+    ensures { λ r. ⌜ Says dashedDay (now (s .entry)) at (numberFound r) (numberMore r) ⌝ }
 {
-    let from = past_sep(s, at);
-    let day_found = fields::date_day(s, from);
+    let mark = parser::literal(s, at, 45);
+    match mark {
+        Mark::Got { next } => fields::date_day(s, next),
+        Mark::Wrong => Number::Wrong,
+        Mark::Cut => Number::Cut,
+    }
+}
+
+// [-DD], day 1 where absent
+fn day_of_month(s: &[u8], at: usize) -> DayFound
+    ensures { λ r. ⌜ Says dashedDayOfMonth (now (s .entry)) at (dayFound r) (dayMore r) ⌝ }
+{
+    let day_found = dashed_day(s, at);
     match day_found {
         Number::Got { value, next } => DayFound::Got {
             value,
@@ -223,9 +234,9 @@ fn day_of_month(s: &[u8], at: usize) -> DayFound
     }
 }
 
-// MM[[-]DD]
+// MM[-DD]: with no dash before the day, alternative 3 has taken the month and one digit more
 fn date_ymd(s: &[u8], at: usize, year: i32) -> DateFound
-    ensures { λ r. ⌜ Says (monthAndDay year) (now (s .entry)) at (dateFound r) (dateMore r) ⌝ }
+    ensures { λ r. ⌜ Says (monthAndDashedDay year) (now (s .entry)) at (dateFound r) (dateMore r) ⌝ }
 {
     let month_found = fields::date_month(s, at);
     match month_found {

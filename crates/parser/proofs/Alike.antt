@@ -3,7 +3,7 @@ use Prim.Native.Nat.{ℕ}
 use mathlib.Core.List.{List, _∷_, _++_}
 use mathlib.Core.Bool.{Bool, true, false}
 use mathlib.Core.Path.{_≡_, refl, sym, _∙_}
-use Rattle.parser.specs.Reading.{Found, no, got, stop, Reader, seq, alt, verify, failed, or, and, Says}
+use Rattle.parser.specs.Reading.{Found, no, got, stop, Reader, seq, opt, alt, verify, map, failed, or, and, Says}
 use Rattle.parser.proofs.Hopeful.{Ends, Hopeful}
 
 pub record AlikeAt {A : Type 0} (p q : Reader A) (s : List ℕ) (at : ℕ) : Type 0 where
@@ -37,6 +37,34 @@ common-beginning {A} {B} p f g q e s at = go (p .reads s at) refl
         tail : (m x y z : Bool) → or (or m x) (and y (or m z)) ≡ or m (or x (and y z))
         tail true x y z = refl
         tail false x y z = refl
+
+-- readers that read alike wherever they are come to, behind a reading or in the place of an alternative that finds nothing, make wholes that do
+module _ {A : Type 0} (p : Reader A) (s : List ℕ) (at : ℕ) where
+  pub seq-alike : {B : Type 0} (f g : A → Reader B) → ((a : A) (n : ℕ) → p .reads s at ≡ got a n → AlikeAt (f a) (g a) s n) → AlikeAt (seq p f) (seq p g) s at
+  unfolding seq
+  seq-alike f g e = go (p .reads s at) refl
+    where
+      go : (x : Found A) → p .reads s at ≡ x → AlikeAt (seq p f) (seq p g) s at
+      go no ex = record { reads = rw ex; more = rw ex }
+      go (stop r) ex = record { reads = rw ex; more = rw ex }
+      go (got a n) ex = record { reads = rw (ex, e a n ex .reads); more = rw (ex, e a n ex .more) }
+
+  pub alt-alike : (q r : Reader A) → (p .reads s at ≡ no → AlikeAt q r s at) → AlikeAt (alt p q) (alt p r) s at
+  unfolding alt
+  alt-alike q r e = go (p .reads s at) refl
+    where
+      go : (x : Found A) → p .reads s at ≡ x → AlikeAt (alt p q) (alt p r) s at
+      go no ex = record { reads = rw (ex, e ex .reads); more = rw (ex, e ex .more) }
+      go (stop r) ex = record { reads = rw ex; more = rw ex }
+      go (got a n) ex = record { reads = rw ex; more = rw ex }
+
+  pub map-alike : {B : Type 0} (f : A → B) (q : Reader A) → AlikeAt p q s at → AlikeAt (map f p) (map f q) s at
+  unfolding map
+  map-alike f q e = record { reads = rw (e .reads); more = e .more }
+
+  pub opt-alike : (q : Reader A) → AlikeAt p q s at → AlikeAt (opt p) (opt q) s at
+  unfolding opt
+  opt-alike q e = record { reads = rw (e .reads); more = e .more }
 
 -- a test of the whole is a test of what is read last
 pub verify-behind : {A B : Type 0} (f : B → Bool) (p : Reader A) (q : A → Reader B) → Alike (verify f (seq p q)) (seq p (λ a. verify f (q a)))

@@ -1,18 +1,20 @@
--- Laws over any reader: what is open at every end, and the same reading from two places.
-use Prim.Native.Nat.{ℕ, zero, suc, _+_, _<_, _≤_}
+-- Laws over any reader: what is open at every end, and the same reading from two places; and of fields where no digit stands.
+use Prim.Native.Nat.{ℕ, zero, suc, _+_, _*_, _-_, _<_, _≤_}
 use mathlib.Core.List.{List}
 use mathlib.Core.Bool.{Bool, true, false}
 use mathlib.Core.Path.{_≡_, refl, sym, _∙_}
 use native.Mathlib.Omega.{arith}
 use lib.ListN.{length, getD}
-use lib.Dec.{ltb, eqb}
-use borrow.Author.Tests.{ltb-false, le-ltb}
-use Rattle.parser.specs.Reading.{Found, no, got, stop, Reader, lit, seq, opt, alt, map, or, and, orElse, failed, Says}
-use Rattle.parser.specs.Digits.{digit, digitsFrom, field, reach}
+use lib.Dec.{ltb, leb, eqb}
+use borrow.Author.Tests.{ltb-false, le-ltb, leb-true, le-leb}
+use Rattle.parser.specs.Reading.{Found, no, got, stop, Reader, lit, seq, opt, alt, map, or, and, pick, within, orElse, failed, Says}
+use Rattle.parser.specs.Digits.{isDigit, digit, digitsFrom, field, reach}
 use Rattle.parser.specs.Fields.{precededBy}
 use Rattle.parser.specs.Read.{placeAfter}
-use Rattle.parser.proofs.Fields.{OtherAt, digitsFrom-other, digitsMore-other, digitsMore-end}
+use Rattle.parser.proofs.Places.{no≢got, got-place}
+use Rattle.parser.proofs.Fields.{and-second, OtherAt, digitsFrom-other, digitsMore-other, digitsMore-end}
 use Rattle.parser.proofs.Leaves.{lit-definite}
+use Rattle.parser.proofs.Alike.{AlikeAt}
 
 -- ---- open at the end of every input
 
@@ -95,3 +97,40 @@ field-no (suc n) lo hi pos s at h = rw h
 pub field-wrong : (n lo hi : ℕ) → 0 < n → (s : List ℕ) (at : ℕ) → OtherAt s at → Says (field n lo hi) s at no false
 unfolding field
 field-wrong n lo hi pos s at o = record { found = sym (digitsFrom-other lo hi n 0 s at pos o); more = sym (digitsMore-other lo hi n 0 s at pos o) }
+
+-- there an optional byte in front of a field reads as the byte itself
+pub preceded-alike : (c n lo hi : ℕ) → 0 < n → (s : List ℕ) (at : ℕ) → digit s at ≡ false → AlikeAt (precededBy c (field n lo hi)) (seq (lit c) (λ _. field n lo hi)) s at
+unfolding lit opt seq
+preceded-alike c n lo hi pos s at h = go (ltb at (length s)) (eqb (getD s at 0) c) refl refl
+  where
+    go : (t u : Bool) → ltb at (length s) ≡ t → eqb (getD s at 0) c ≡ u → AlikeAt (precededBy c (field n lo hi)) (seq (lit c) (λ _. field n lo hi)) s at
+    go true true i u = record { reads = rw (i, u); more = rw (i, u) }
+    go true false i u =
+        let none = field-wrong n lo hi pos s at (record { inside = i; is = rw i at h }) in
+        record { reads = rw (i, u) (sym (none .found)); more = rw (i, u) (sym (none .more)) }
+    go false u i _ = record { reads = rw i (field-no n lo hi pos s at h); more = rw i }
+
+-- behind a field none stands where a wider one failed, whose range has every number that one digit more can make
+behind : (lo hi l h n v : ℕ) (s : List ℕ) (at w k : ℕ) → l ≤ lo * 10 → hi * 10 + 9 ≤ h → digitsFrom lo hi n v s at ≡ got w k → digitsFrom l h (suc n) v s at ≡ no → digit s k ≡ false
+unfolding digitsFrom
+behind lo hi l h zero v s at w k a b e f = go (leb lo v) (leb v hi) (isDigit (getD s at 0)) (ltb at (length s)) refl refl refl refl e f
+  where
+    go : (t u d i : Bool) → leb lo v ≡ t → leb v hi ≡ u → isDigit (getD s at 0) ≡ d → ltb at (length s) ≡ i → pick (and t u) (got v at) no ≡ got w k → pick (and i d) (pick (within l h (v * 10 + (getD s at 0 - 48))) (got (v * 10 + (getD s at 0 - 48)) (at + 1)) no) no ≡ no → digit s k ≡ false
+    go true true true true t u d i e f =
+        let most = leb-true (getD s at 0) 57 (and-second (leb 48 (getD s at 0)) d) in
+        let least : l ≤ v * 10 + (getD s at 0 - 48) = omega (arith, leb-true lo v t) in
+        let small : v * 10 + (getD s at 0 - 48) ≤ h = omega (arith, leb-true v hi u, most) in
+        absurd (no≢got (sym (rw (le-leb l (v * 10 + (getD s at 0 - 48)) least, le-leb (v * 10 + (getD s at 0 - 48)) h small) at f)))
+    go true true false true t u d i e f = rw (← got-place e, i, d)
+    go true true d false t u _ i e f = rw (← got-place e, i)
+    go true false d i t u _ _ e f = absurd (no≢got e)
+    go false u d i t _ _ _ e f = absurd (no≢got e)
+behind lo hi l h (suc n) v s at w k a b e f = go (digit s at) e f (behind lo hi l h n (v * 10 + (getD s at 0 - 48)) s (at + 1) w k a b)
+  where
+    go : (d : Bool) → pick d (digitsFrom lo hi n (v * 10 + (getD s at 0 - 48)) s (at + 1)) no ≡ got w k → pick d (digitsFrom l h (suc n) (v * 10 + (getD s at 0 - 48)) s (at + 1)) no ≡ no → (digitsFrom lo hi n (v * 10 + (getD s at 0 - 48)) s (at + 1) ≡ got w k → digitsFrom l h (suc n) (v * 10 + (getD s at 0 - 48)) s (at + 1) ≡ no → digit s k ≡ false) → digit s k ≡ false
+    go true e f ih = ih e f
+    go false e f ih = absurd (no≢got e)
+
+pub field-behind : (n lo hi l h : ℕ) (s : List ℕ) (at w k : ℕ) → l ≤ lo * 10 → hi * 10 + 9 ≤ h → field n lo hi .reads s at ≡ got w k → field (suc n) l h .reads s at ≡ no → digit s k ≡ false
+unfolding field
+field-behind n lo hi l h s at w k a b e f = behind lo hi l h n 0 s at w k a b e f

@@ -26,6 +26,11 @@ got-place e = cc
 pub got-value : {A : Type 0} {a b : A} {m n : ℕ} → got a m ≡ got b n → a ≡ b
 got-value e = cc
 
+pub map-no : {A B : Type 0} (f : A → B) (x : Found A) → mapFound f x ≡ no → x ≡ no
+map-no f no e = refl
+map-no f (got a n) e = absurd (no≢got (sym e))
+map-no f (stop r) e = let z : _≡_ {A = ℕ} 0 1 = cc in absurd (omega arith)
+
 -- ---- what is found ends within the input
 
 abbrev pub Bounded : {A : Type 0} → Reader A → Type 0

@@ -5,7 +5,8 @@ use mir.Val.{toZ, ofZ}
 use mir.Facts.{toZ-ofZ}
 use mathlib.Core.Bool.{true, false}
 use Rattle.date.specs.Rules.{ordinal, monthAndDay}
-use Rattle.parser.proofs.Says.{says-alt-got, says-alt-no}
+use Rattle.parser.proofs.Says.{says-alt-got}
+use Rattle.date.proofs.Dashed.{says-month}
 use borrow.Author.Needs.{needs}
 use Rattle.date.proofs.after_dash.Statement.{statement}
 use Rattle.date.proofs.after_dash.Tie as tie
@@ -41,14 +42,14 @@ returns-2 : tie.Need-returns-2
 returns-2 c =
     let a = c .before .before .before .before .before .args in
     let same : toZ w32 (ofZ w32 (a .year)) ≡ a .year = toZ-ofZ (c .before .before .before .before .before .fits .year) in
-    says-alt-no (ordinal (a .year)) (a .s .now) (a .at) (monthAndDay (a .year)) false _ _ (rw (same, c .before .enum-told .given .1) at (c .before .before .before .date-yddd .ensures)) (rw same at (c .date-ymd .ensures))
+    says-month (a .year) (a .s .now) (a .at) false _ _ (rw (same, c .before .enum-told .given .1) at (c .before .before .before .date-yddd .ensures)) (rw same at (c .date-ymd .ensures))
 
 returns-3 : tie.Need-returns-3
 returns-3 c =
     let a = c .before .before .before .before .before .before .args in
     let same : toZ w32 (ofZ w32 (a .year)) ≡ a .year = toZ-ofZ (c .before .before .before .before .before .before .fits .year) in
     rw (c .opened .ensures .0, c .opened .ensures .1)
-    (says-alt-no (ordinal (a .year)) (a .s .now) (a .at) (monthAndDay (a .year)) true _ _ (rw (same, c .before .before .enum-told2 .given .1) at (c .before .before .before .before .date-yddd .ensures)) (rw same at (c .before .date-ymd2 .ensures)))
+    (says-month (a .year) (a .s .now) (a .at) true _ _ (rw (same, c .before .before .enum-told2 .given .1) at (c .before .before .before .before .date-yddd .ensures)) (rw same at (c .before .date-ymd2 .ensures)))
 
 pub after-dash-spec : {M : Type 1} → statement M
 after-dash-spec =

@@ -7,7 +7,7 @@ use mathlib.Core.Bool.{true, false}
 use Rattle.parser.specs.Reading.{map}
 use Rattle.types.specs.declared.Date.the-variants.{YMD}
 use Rattle.parser.specs.Fields.{month}
-use Rattle.date.specs.Rules.{dayOfMonth, monthAndDay}
+use Rattle.date.specs.Answer.{dashedDayOfMonth, monthAndDashedDay}
 use Rattle.parser.proofs.Says.{says-map, says-seq-got, says-seq-no}
 use borrow.Author.Needs.{needs}
 use Rattle.date.proofs.date_ymd.Statement.{statement}
@@ -35,33 +35,33 @@ enum-told-3 : tie.Need-enum-told-3
 enum-told-3 c = search needs
 
 returns : tie.Need-returns
-unfolding monthAndDay
+unfolding monthAndDashedDay
 returns c =
     let a = c .before .before .before .before .before .before .before .before .before .args in
     let same : toZ w32 (ofZ w32 (a .year)) ≡ a .year = toZ-ofZ (c .before .before .before .before .before .before .before .before .before .fits .year) in
     let first = rw (c .before .before .before .before .before .month-found .given .1) at (c .before .before .before .before .before .before .before .date-month .ensures) in
     let second = rw (c .before .day-found .given .1) at (c .before .before .before .day-of-month .ensures) in
-    rw same (says-seq-got month (a .s .now) (a .at) (λ x. map (λ d. YMD (a .year) x d) dayOfMonth) _ _ false _ _ first (says-map dayOfMonth (a .s .now) _ (λ d. YMD (a .year) _ d) _ _ second))
+    rw same (says-seq-got month (a .s .now) (a .at) (λ x. map (λ d. YMD (a .year) x d) dashedDayOfMonth) _ _ false _ _ first (says-map dashedDayOfMonth (a .s .now) _ (λ d. YMD (a .year) _ d) _ _ second))
 
 returns-2 : tie.Need-returns-2
-unfolding monthAndDay
+unfolding monthAndDashedDay
 returns-2 c =
     let a = c .before .before .before .before .before .before .before .before .args in
     let first = rw (c .before .before .before .before .month-found .given .1) at (c .before .before .before .before .before .before .date-month .ensures) in
     let second = rw (c .enum-told .given .1) at (c .before .before .day-of-month .ensures) in
-    says-seq-got month (a .s .now) (a .at) (λ x. map (λ d. YMD (a .year) x d) dayOfMonth) _ _ false _ _ first (says-map dayOfMonth (a .s .now) _ (λ d. YMD (a .year) _ d) _ false second)
+    says-seq-got month (a .s .now) (a .at) (λ x. map (λ d. YMD (a .year) x d) dashedDayOfMonth) _ _ false _ _ first (says-map dashedDayOfMonth (a .s .now) _ (λ d. YMD (a .year) _ d) _ false second)
 
 returns-3 : tie.Need-returns-3
-unfolding monthAndDay
+unfolding monthAndDashedDay
 returns-3 c =
     let a = c .before .before .before .before .args in
-    says-seq-no month (a .s .now) (a .at) (λ x. map (λ d. YMD (a .year) x d) dayOfMonth) false (rw (c .enum-told2 .given .1) at (c .before .before .date-month .ensures))
+    says-seq-no month (a .s .now) (a .at) (λ x. map (λ d. YMD (a .year) x d) dashedDayOfMonth) false (rw (c .enum-told2 .given .1) at (c .before .before .date-month .ensures))
 
 returns-4 : tie.Need-returns-4
-unfolding monthAndDay
+unfolding monthAndDashedDay
 returns-4 c =
     let a = c .before .before .before .before .args in
-    says-seq-no month (a .s .now) (a .at) (λ x. map (λ d. YMD (a .year) x d) dayOfMonth) true (rw (c .enum-told3 .given .1) at (c .before .before .date-month .ensures))
+    says-seq-no month (a .s .now) (a .at) (λ x. map (λ d. YMD (a .year) x d) dashedDayOfMonth) true (rw (c .enum-told3 .given .1) at (c .before .before .date-month .ensures))
 
 pub date-ymd-spec : {M : Type 1} → statement M
 date-ymd-spec =

@@ -22,10 +22,11 @@ use Rattle.parser.proofs.Says.{says-map, says-opt, says-seq-got, says-seq-no, s
 use Rattle.looks.specs.Date.{plainDate}
 use Rattle.looks.specs.declared.PlainDate.the-variants.{Got, Other}
 use Rattle.looks.proofs.Choices.{picked-first, picked-second}
-use Rattle.looks.proofs.Two.{two-is, twoAt, two-field, four-field, three-cut, digit-no, past-byte}
-use Rattle.date.specs.Rules.{minus, digitsOfYear, year, weekOfYear, week, dayOfWeek, weekAndDay, dayOfYear, ordinal, dayOfMonth, monthAndDay, date}
-use Rattle.date.specs.Answer.{afterYear}
-use Rattle.date.proofs.Dash.{says-after-dash, of-day}
+use Rattle.looks.proofs.Two.{two-is, twoAt, two-field, four-field, three-cut, digit-no, byte-says, past-byte}
+use Rattle.date.specs.Rules.{minus, digitsOfYear, year, dash, weekOfYear, week, dayOfWeek, weekAndDay, dayOfYear, ordinal, date}
+use Rattle.date.specs.Answer.{afterYear, dashedDayOfMonth, monthAndDashedDay}
+use Rattle.date.proofs.Dash.{says-after-dash}
+use Rattle.date.proofs.Dashed.{of-day, says-month}
 use Rattle.date.proofs.Laws.{date-alike}
 
 other-got : {d : Date} → Other ≡ Got d → ⊥
@@ -91,20 +92,20 @@ module _ (s : List ℕ) (x : Seen s) where
         let other : OtherAt s 7 = record { inside = lt-ltb 7 (length s) (omega (arith, x .long)); is = rw (eqb-true (getD s 7 0) 45 (x .second)) } in
         says-map dayOfYear s 5 (λ d. Ordinal y d) no false (three-cut s 5 1 366 1 12 (omega (arith, x .long)) (x .month) other)
 
-    says-month : Says (monthAndDay y) s 5 (got (YMD y (twoAt s 5 1 12) (twoAt s 8 1 31)) 10) false
-    unfolding monthAndDay
-    says-month =
+    says-day : Says (monthAndDashedDay y) s 5 (got (YMD y (twoAt s 5 1 12) (twoAt s 8 1 31)) 10) false
+    unfolding monthAndDashedDay
+    says-day =
         let m = twoAt s 5 1 12 in
-        says-seq-got month s 5 (λ m. map (λ d. YMD y m d) dayOfMonth) m 7 false _ false (two-field s 5 1 12 (omega (arith, x .long)) (x .month))
-        (says-map dayOfMonth s 7 (λ d. YMD y m d) _ false
-        (of-day s 7 8 (got (twoAt s 8 1 31) 10) false (past-byte s 7 45 (omega (arith, x .long)) (x .second)) (two-field s 8 1 31 (omega (arith, x .long)) (x .day))))
+        says-seq-got month s 5 (λ m. map (λ d. YMD y m d) dashedDayOfMonth) m 7 false _ false (two-field s 5 1 12 (omega (arith, x .long)) (x .month))
+        (says-map dashedDayOfMonth s 7 (λ d. YMD y m d) _ false
+        (of-day s 7 (got (twoAt s 8 1 31) 10) false (says-seq-got dash s 7 (λ _. day) tt 8 false _ false (byte-says s 7 45 (omega (arith, x .long)) (x .second)) (two-field s 8 1 31 (omega (arith, x .long)) (x .day)))))
 
   says-seen : Says date s 0 (got (valueOf s) 10) false
   says-seen =
       alike-says date (seq year afterYear) date-alike s 0 _ _
       (says-seq-got year s 0 afterYear (pos n) 4 false _ false says-year
       (says-after-dash (pos n) s 4 5 (past-byte s 4 45 (omega (arith, x .long)) (x .first)) _ _ (omega arith) (says-week (pos n))
-      (says-alt-no (ordinal (pos n)) s 5 (monthAndDay (pos n)) false _ false (says-ordinal (pos n)) (says-month (pos n)))))
+      (says-month (pos n) s 5 false _ false (says-ordinal (pos n)) (says-day (pos n)))))
 
 pub plain-says : (s : List ℕ) (d : Date) → plainDate s ≡ Got d → Says date s 0 (got d 10) false
 plain-says s d e = let x = seen s d e in rw (← x .1) (says-seen s (x .0))
