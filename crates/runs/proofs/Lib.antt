@@ -1,2 +1,3 @@
 pub mod Along
 pub mod Nanoseconds
+pub mod Factors

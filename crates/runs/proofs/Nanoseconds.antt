@@ -17,7 +17,7 @@ data Digits : List ℕ → Type 0 where
   none : Digits []
   also : {b : ℕ} {d : List ℕ} → b ≤ 57 → Digits d → Digits (b ∷ d)
 
-times-ten : (m n : ℕ) → m * 10 * 10 ^ n ≡ m * 10 ^ suc n
+pub times-ten : (m n : ℕ) → m * 10 * 10 ^ n ≡ m * 10 ^ suc n
 times-ten m n = rw (pow-succ' 10 n) (mul-assoc m 10 (10 ^ n))
 
 below-power : (n v m : ℕ) → v < m → v < m * 10 ^ n

@@ -3,9 +3,9 @@
 ghost use mathlib.Core.Path.{_≡_};
 ghost use Prim.Native.Nat.{_+_, _-_, _^_, _<_};
 ghost use lib.Dec.{ltb};
-ghost use lib.ListN.{length, replicate};
+ghost use lib.ListN.{length};
 ghost use Rattle.parser.specs.Reading.{Says};
-ghost use Rattle.parser.specs.Digits.{run, fraction, runAt, numberFrom};
+ghost use Rattle.parser.specs.Digits.{run, fraction, runAt};
 ghost use Rattle.runs.specs.Read.{foundRun, runFound, runMore};
 
 // What a digit run finds. `more`: it reaches the end of the input, where a digit could still be added.
@@ -71,18 +71,25 @@ fn digits_end(s: &[u8], at: usize) -> usize
     next
 }
 
-// The number of `l` digits with zeros put behind them, nine in all.
-fn padded(value: u32, l: usize) -> u32
-    requires { ⌜ numberFrom value (replicate (9 - l) 48) < 2 ^ 32 ⌝ }
-    ensures { λ r. ⌜ r ≡ numberFrom value (replicate (9 - l) 48) ⌝ }
+// What a digit of a fraction is worth in each of its first nine places, in nanoseconds.
+const FACTORS: [u32; 9] = [
+    100000000,
+    10000000,
+    1000000,
+    100000,
+    10000,
+    1000,
+    100,
+    10,
+    1,
+];
+
+// The place counted from 0.
+fn factor(place: usize) -> u32
+    requires { ⌜ place < 9 ⌝ }
+    ensures { λ r. ⌜ r ≡ 10 ^ (8 - place) ⌝ }
 {
-    let mut result = value;
-    let mut n = l;
-    while n < 9 {
-        result = result * 10;
-        n = n + 1;
-    }
-    result
+    FACTORS[place]
 }
 
 // The fraction of a second after its comma or point, in nanoseconds: digits past the ninth are read and dropped.
@@ -91,21 +98,21 @@ pub fn fraction_nanosecond(s: &[u8], at: usize) -> Run
 {
     let mut value: u32 = 0;
     let mut next = at;
-    let mut l: usize = 0;
-    while l < 9 {
+    let mut place: usize = 0;
+    while place < 9 {
         if s.len() <= next {
-            return found_run(at, next, padded(value, l), true);
+            return found_run(at, next, value, true);
         }
         let b = s[next];
         if b < 48 {
-            return found_run(at, next, padded(value, l), false);
+            return found_run(at, next, value, false);
         }
         if 57 < b {
-            return found_run(at, next, padded(value, l), false);
+            return found_run(at, next, value, false);
         }
-        value = value * 10 + ((b - 48) as u32);
+        value = value + ((b - 48) as u32) * factor(place);
         next = next + 1;
-        l = l + 1;
+        place = place + 1;
     }
     let end = digits_end(s, next);
     Run::Got {
