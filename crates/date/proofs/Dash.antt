@@ -18,7 +18,8 @@ use Rattle.parser.proofs.Says.{says-seq-no, says-alt-no}
 use Rattle.date.specs.Rules.{dash, weekAndDay, wd, mdNumeric, ordinal, ddd, monthAndDay, md}
 use Rattle.parser.specs.Read.{placeAfter}
 use Rattle.date.specs.Answer.{afterYear}
-use Rattle.parser.proofs.General.{SameFrom, same-says, preceded-same, after-same, alt-same, alt-drop, field-no, field-wrong}
+use Rattle.parser.proofs.Alike.{SameFrom, same-says, alt-same}
+use Rattle.parser.proofs.General.{preceded-same, after-same, alt-drop, field-no, field-wrong}
 use Rattle.date.proofs.Parts.{weekAndDay-item, ordinal-item}
 
 -- ---- what a dash tells, and a byte that is none
@@ -89,7 +90,7 @@ module _ (y : ℤ) (s : List ℕ) (at from : ℕ) (e : from ≡ placeAfter at (d
         let d = dash-there s at from e h in
         says-alt-no (wd y) s at (alt (mdNumeric y) (alt (ddd y) (md y))) false f m (same-says week-same w)
         (says-alt-no (mdNumeric y) s at (alt (ddd y) (md y)) false f m (says-seq-no month s at (λ n. map (λ d. YMD y n d) day) false (field-wrong 2 1 12 (omega arith) s at (d .other)))
-        (same-says (alt-same ordinal-same (after-same 45 (monthAndDay y) s at from (d .reads))) r))
+        (same-says (alt-same ordinal-same (λ _. after-same 45 (monthAndDay y) s at from (d .reads))) r))
 
     pub says-no-dash : from ≤ at → Says (weekAndDay y) s from no false → Says (alt (mdNumeric y) (ordinal y)) s from f m → Says (afterYear y) s at f m
     unfolding afterYear
@@ -97,7 +98,7 @@ module _ (y : ℤ) (s : List ℕ) (at from : ℕ) (e : from ≡ placeAfter at (d
         let d = no-dash-there s at from e h in
         let none : Says dash s at no false = record { found = sym (d .1); more = sym (inside-settled s at (here (d .0))) } in
         says-alt-no (wd y) s at (alt (mdNumeric y) (alt (ddd y) (md y))) false f m (same-says week-same w)
-        (same-says (alt-same (numeric-same (d .0)) (alt-drop (md y) ordinal-same (says-seq-no dash s at (λ _. monthAndDay y) false none))) r)
+        (same-says (alt-same (numeric-same (d .0)) (λ _. alt-drop (md y) ordinal-same (says-seq-no dash s at (λ _. monthAndDay y) false none))) r)
       where
         numeric-same : from ≡ at → SameFrom (mdNumeric y) (mdNumeric y) s at from
         numeric-same z = rw z (record { reads = refl; more = refl })

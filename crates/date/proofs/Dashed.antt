@@ -3,7 +3,7 @@
 use Prim.Native.Nat.{ℕ}
 use mathlib.Core.List.{List}
 use mathlib.Core.Bool.{Bool, false}
-use mathlib.Core.Path.{_≡_, sym, _∙_}
+use mathlib.Core.Path.{_≡_, sym}
 use native.Mathlib.Omega.{arith}
 use lib.IntN.{ℤ}
 use Rattle.types.specs.declared.Date.{Date}
@@ -11,7 +11,7 @@ use Rattle.parser.specs.Reading.{Found, no, Reader, seq, opt, lack, alt, map, m
 use Rattle.parser.specs.Digits.{digit}
 use Rattle.parser.specs.Fields.{month}
 use Rattle.parser.proofs.Places.{map-no}
-use Rattle.parser.proofs.Alike.{AlikeAt, Alike, seq-alike, alt-alike, map-alike, opt-alike}
+use Rattle.parser.proofs.Alike.{same-says, alt-same, AlikeAt, Alike, alike-refl, seq-alike, map-alike, opt-alike}
 use Rattle.parser.proofs.General.{preceded-alike, field-behind}
 use Rattle.parser.proofs.Says.{says-map, says-opt, says-alt-no}
 use Rattle.date.specs.Rules.{year, dash, ywd, ymdNumeric, ordinal, yddd, orFirst, dayOfMonth, monthAndDay, date}
@@ -40,7 +40,7 @@ month-alike y s at h = seq-alike month s at _ _ (λ m n e. map-alike _ s n _ _ (
 pub date-dashed : Alike date dateDashed
 unfolding date seq opt
 date-dashed s at =
-    alt-alike ywd s at _ _ (λ _. alt-alike ymdNumeric s at _ _ (λ _. alt-alike yddd s at _ _ (λ none.
+    alt-same (alike-refl ywd s at) (λ _. alt-same (alike-refl ymdNumeric s at) (λ _. alt-same (alike-refl yddd s at) (λ none.
     seq-alike year s at _ _ (λ y n e. seq-alike dash s n _ _ (λ _ m d. month-alike y s m (rw (e, d) at none))))))
 
 -- ---- what the code says by it
@@ -51,6 +51,4 @@ of-day s at f m h = says-map (opt dashedDay) s at orFirst _ m (says-opt dashedDa
 
 -- alternative 4 where 3 has found nothing
 pub says-month : (y : ℤ) (s : List ℕ) (at : ℕ) (t : Bool) (f : Found Date) (m : Bool) → Says (ordinal y) s at no t → Says (monthAndDashedDay y) s at f m → Says (alt (ordinal y) (monthAndDay y)) s at f (or t m)
-says-month y s at t f m h k =
-    let e = month-alike y s at (sym (h .found)) in
-    says-alt-no (ordinal y) s at (monthAndDay y) t f m h (record { found = k .found ∙ sym (e .reads); more = k .more ∙ sym (e .more) })
+says-month y s at t f m h k = says-alt-no (ordinal y) s at (monthAndDay y) t f m h (same-says (month-alike y s at (sym (h .found))) k)

@@ -1,4 +1,4 @@
--- Two readers that read alike; and a common beginning, which is read once for several alternatives.
+-- Two readers that read the same, from one place or from two; and a common beginning, which is read once for several alternatives.
 use Prim.Native.Nat.{ℕ}
 use mathlib.Core.List.{List, _∷_, _++_}
 use mathlib.Core.Bool.{Bool, true, false}
@@ -6,9 +6,29 @@ use mathlib.Core.Path.{_≡_, refl, sym, _∙_}
 use Rattle.parser.specs.Reading.{Found, no, got, stop, Reader, seq, opt, alt, verify, map, failed, or, and, Says}
 use Rattle.parser.proofs.Hopeful.{Ends, Hopeful}
 
-pub record AlikeAt {A : Type 0} (p q : Reader A) (s : List ℕ) (at : ℕ) : Type 0 where
-  pub reads : p .reads s at ≡ q .reads s at
-  pub more : p .more s at ≡ q .more s at
+-- ---- the same reading from two places
+
+pub record SameFrom {A : Type 0} (p q : Reader A) (s : List ℕ) (at from : ℕ) : Type 0 where
+  pub reads : p .reads s at ≡ q .reads s from
+  pub more : p .more s at ≡ q .more s from
+
+pub same-says : {A : Type 0} {p q : Reader A} {s : List ℕ} {at from : ℕ} {f : Found A} {m : Bool} → SameFrom p q s at from → Says q s from f m → Says p s at f m
+same-says e h = record { found = h .found ∙ sym (e .reads); more = h .more ∙ sym (e .more) }
+
+-- an alternative matters only where the one before it finds nothing
+pub alt-same : {A : Type 0} {p p′ q q′ : Reader A} {s : List ℕ} {at from : ℕ} → SameFrom p p′ s at from → (p .reads s at ≡ no → SameFrom q q′ s at from) → SameFrom (alt p q) (alt p′ q′) s at from
+unfolding alt
+alt-same {A} {p} {p′} {q} {q′} {s} {at} {from} e g = go (p .reads s at) refl (sym (e .reads))
+  where
+    go : (x : Found A) → p .reads s at ≡ x → p′ .reads s from ≡ p .reads s at → SameFrom (alt p q) (alt p′ q′) s at from
+    go no i j = record { reads = rw (j, i, g i .reads); more = rw (j, i, e .more, g i .more) }
+    go (stop r) i j = record { reads = rw (j, i); more = rw (j, i, e .more) }
+    go (got a n) i j = record { reads = rw (j, i); more = rw (j, i, e .more) }
+
+-- ---- and from one, at some inputs or at all
+
+abbrev pub AlikeAt : {A : Type 0} → Reader A → Reader A → List ℕ → ℕ → Type 0
+AlikeAt p q s at = SameFrom p q s at at
 
 abbrev pub Alike : {A : Type 0} → Reader A → Reader A → Type 0
 Alike p q = (s : List ℕ) (at : ℕ) → AlikeAt p q s at
@@ -38,7 +58,7 @@ common-beginning {A} {B} p f g q e s at = go (p .reads s at) refl
         tail true x y z = refl
         tail false x y z = refl
 
--- readers that read alike wherever they are come to, behind a reading or in the place of an alternative that finds nothing, make wholes that do
+-- what reads alike wherever it is come to makes wholes that do
 module _ {A : Type 0} (p : Reader A) (s : List ℕ) (at : ℕ) where
   pub seq-alike : {B : Type 0} (f g : A → Reader B) → ((a : A) (n : ℕ) → p .reads s at ≡ got a n → AlikeAt (f a) (g a) s n) → AlikeAt (seq p f) (seq p g) s at
   unfolding seq
@@ -48,15 +68,6 @@ module _ {A : Type 0} (p : Reader A) (s : List ℕ) (at : ℕ) where
       go no ex = record { reads = rw ex; more = rw ex }
       go (stop r) ex = record { reads = rw ex; more = rw ex }
       go (got a n) ex = record { reads = rw (ex, e a n ex .reads); more = rw (ex, e a n ex .more) }
-
-  pub alt-alike : (q r : Reader A) → (p .reads s at ≡ no → AlikeAt q r s at) → AlikeAt (alt p q) (alt p r) s at
-  unfolding alt
-  alt-alike q r e = go (p .reads s at) refl
-    where
-      go : (x : Found A) → p .reads s at ≡ x → AlikeAt (alt p q) (alt p r) s at
-      go no ex = record { reads = rw (ex, e ex .reads); more = rw (ex, e ex .more) }
-      go (stop r) ex = record { reads = rw ex; more = rw ex }
-      go (got a n) ex = record { reads = rw ex; more = rw ex }
 
   pub map-alike : {B : Type 0} (f : A → B) (q : Reader A) → AlikeAt p q s at → AlikeAt (map f p) (map f q) s at
   unfolding map
@@ -77,7 +88,7 @@ verify-behind {A} f p q s at = go (p .reads s at) refl
     go (got a n) e = record { reads = rw e; more = refl }
 
 pub alike-says : {A : Type 0} (p q : Reader A) → Alike p q → (s : List ℕ) (at : ℕ) (f : Found A) (m : Bool) → Says q s at f m → Says p s at f m
-alike-says p q e s at f m h = record { found = h .found ∙ sym (e s at .reads); more = h .more ∙ sym (e s at .more) }
+alike-says p q e s at f m h = same-says (e s at) h
 
 pub alike-ends : {A : Type 0} {k : ℕ} {X : ℕ → Type 0} {F : A → Type 0} (p q : Reader A) {s : List ℕ} {at : ℕ} → Alike p q → Ends k X F q s at → Ends k X F p s at
 alike-ends p q {s} {at} e x = record { first = x .first; rest = x .rest; value = x .value; begins = x .begins; few = x .few; fact = x .fact; reads = e (s ++ x .first ∷ x .rest) at .reads ∙ x .reads }

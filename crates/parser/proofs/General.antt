@@ -14,7 +14,7 @@ use Rattle.parser.specs.Read.{placeAfter}
 use Rattle.parser.proofs.Places.{no≢got, got-place}
 use Rattle.parser.proofs.Fields.{and-second, OtherAt, digitsFrom-other, digitsMore-other, digitsMore-end}
 use Rattle.parser.proofs.Leaves.{lit-definite}
-use Rattle.parser.proofs.Alike.{AlikeAt}
+use Rattle.parser.proofs.Alike.{SameFrom, same-says, AlikeAt}
 
 -- ---- open at the end of every input
 
@@ -43,13 +43,6 @@ alt-eager p q ep s at h = rw (ep s at h)
 
 -- ---- the same reading from two places
 
-pub record SameFrom {A : Type 0} (p q : Reader A) (s : List ℕ) (at from : ℕ) : Type 0 where
-  pub reads : p .reads s at ≡ q .reads s from
-  pub more : p .more s at ≡ q .more s from
-
-pub same-says : {A : Type 0} {p q : Reader A} {s : List ℕ} {at from : ℕ} {f : Found A} {m : Bool} → SameFrom p q s at from → Says q s from f m → Says p s at f m
-same-says e h = record { found = h .found ∙ sym (e .reads); more = h .more ∙ sym (e .more) }
-
 -- an optional byte in front of what is open at every end
 pub preceded-same : {A : Type 0} (c : ℕ) (q : Reader A) → Eager q → (s : List ℕ) (at from : ℕ) → from ≡ placeAfter at (lit c .reads s at) → SameFrom (precededBy c q) q s at from
 unfolding lit opt seq
@@ -64,10 +57,6 @@ preceded-same c q eq s at from e = go (ltb at (length s)) (eqb (getD s at 0) c) 
 pub after-same : {A : Type 0} (c : ℕ) (q : Reader A) (s : List ℕ) (at from : ℕ) → lit c .reads s at ≡ got tt from → SameFrom (seq (lit c) (λ _. q)) q s at from
 unfolding seq
 after-same c q s at from e = record { reads = rw e; more = rw (lit-definite c s at tt from e, e) }
-
-pub alt-same : {A : Type 0} {p p′ q q′ : Reader A} {s : List ℕ} {at from : ℕ} → SameFrom p p′ s at from → SameFrom q q′ s at from → SameFrom (alt p q) (alt p′ q′) s at from
-unfolding alt
-alt-same e g = record { reads = rw (e .reads, g .reads); more = rw (e .reads, e .more, g .more) }
 
 -- an alternative that finds nothing, whatever follows, does nothing
 pub alt-drop : {A : Type 0} {p q : Reader A} (r : Reader A) {s : List ℕ} {at from : ℕ} → SameFrom p q s at from → Says r s at no false → SameFrom (alt p r) q s at from

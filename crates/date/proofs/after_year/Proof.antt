@@ -8,7 +8,7 @@ use Rattle.date.specs.Rules.{wd, mdNumeric, ddd, md}
 use Rattle.date.specs.Answer.{afterYear}
 use Rattle.parser.proofs.Says.{says-alt-got}
 use Rattle.date.proofs.Dash.{week-same, says-after-dash, says-no-dash, says-week-cut}
-use Rattle.parser.proofs.General.{same-says}
+use Rattle.parser.proofs.Alike.{same-says}
 use borrow.Author.Needs.{needs}
 use Rattle.date.proofs.after_year.Statement.{statement}
 use Rattle.date.proofs.after_year.Tie as tie
