@@ -71,7 +71,7 @@ fn digits_end(s: &[u8], at: usize) -> usize
     next
 }
 
-// What a digit of a fraction is worth in each of its first nine places, in nanoseconds.
+// A fraction's first nine places, in nanoseconds.
 const FACTORS: [u32; 9] = [
     100000000,
     10000000,
@@ -84,7 +84,7 @@ const FACTORS: [u32; 9] = [
     1,
 ];
 
-// The place counted from 0.
+// What a digit is worth at a place, counted from 0.
 fn factor(place: usize) -> u32
     requires { ⌜ place < 9 ⌝ }
     ensures { λ r. ⌜ r ≡ 10 ^ (8 - place) ⌝ }

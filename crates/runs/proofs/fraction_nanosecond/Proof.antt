@@ -123,19 +123,17 @@ cast-value c = omega arith
 factor-requires : tie.Need-factor-requires Inv-loop μ-loop
 factor-requires c κs = omega arith
 
-mul-value : tie.Need-mul-value Inv-loop μ-loop
-mul-value c =
+loop-again : tie.Need-loop-again Inv-loop μ-loop
+loop-again c =
     let a = c .before .before .before .before .before .before .before .before .args in
     let l = c .before .before .before .before .before .before .loop in
-    let g = nine-step (a .s .now) (a .at) (l .value) (l .next) (l .place) (l .inv) (c .factor .result) (c .factor .ensures) (omega arith) (digit-at (a .s .now) (l .next) (omega arith) (omega arith) (omega arith)) in
-    omega (arith, nine-small (a .s .now) (a .at) (l .value + (getD (a .s .now) (l .next) 0 - 48) * c .factor .result) (l .next + 1) (l .place + 1) g)
+    nine-step (a .s .now) (a .at) (l .value) (l .next) (l .place) (l .inv) (c .factor .result) (c .factor .ensures) (omega arith) (digit-at (a .s .now) (l .next) (omega arith) (omega arith) (omega arith))
+
+mul-value : tie.Need-mul-value Inv-loop μ-loop
+mul-value c = omega (arith, nine-small _ _ _ _ _ (loop-again c))
 
 add-value : tie.Need-add-value Inv-loop μ-loop
-add-value c =
-    let a = c .before .before .before .before .before .before .before .before .args in
-    let l = c .before .before .before .before .before .before .loop in
-    let g = nine-step (a .s .now) (a .at) (l .value) (l .next) (l .place) (l .inv) (c .factor .result) (c .factor .ensures) (omega arith) (digit-at (a .s .now) (l .next) (omega arith) (omega arith) (omega arith)) in
-    omega (arith, nine-small (a .s .now) (a .at) (l .value + (getD (a .s .now) (l .next) 0 - 48) * c .factor .result) (l .next + 1) (l .place + 1) g)
+add-value c = omega (arith, nine-small _ _ _ _ _ (loop-again c))
 
 add-next : tie.Need-add-next Inv-loop μ-loop
 add-next c = omega arith
@@ -145,13 +143,6 @@ add-place c = omega arith
 
 loop-less : tie.Need-loop-less Inv-loop μ-loop
 loop-less c = omega arith
-
-loop-again : tie.Need-loop-again Inv-loop μ-loop
-loop-again c =
-    let a = c .before .before .before .before .before .before .before .before .args in
-    let l = c .before .before .before .before .before .before .loop in
-    let g = nine-step (a .s .now) (a .at) (l .value) (l .next) (l .place) (l .inv) (c .factor .result) (c .factor .ensures) (omega arith) (digit-at (a .s .now) (l .next) (omega arith) (omega arith) (omega arith)) in
-    g
 
 digits-end-requires : tie.Need-digits-end-requires Inv-loop μ-loop
 digits-end-requires c κs = search needs
