@@ -3,8 +3,9 @@ use Prim.Native.Nat.{ℕ}
 use mathlib.Core.List.{List, _∷_, _++_}
 use mathlib.Core.Bool.{Bool, true, false}
 use mathlib.Core.Path.{_≡_, refl, sym, _∙_}
-use Rattle.parser.specs.Reading.{Found, no, got, stop, Reader, seq, opt, alt, verify, map, failed, or, and, Says}
-use Rattle.parser.proofs.Hopeful.{Ends, Hopeful}
+use mathlib.Core.Logic.{_⊎_, inl, inr}
+use Rattle.parser.specs.Reading.{Found, no, got, stop, Reader, seq, opt, alt, verify, must, map, failed, or, and, Says}
+use Rattle.parser.proofs.Hopeful.{Ends, AnyByte, Stops, HopefulOr}
 
 -- ---- the same reading from two places
 
@@ -87,11 +88,24 @@ verify-behind {A} f p q s at = go (p .reads s at) refl
     go (stop r) e = record { reads = rw e; more = refl }
     go (got a n) e = record { reads = rw e; more = refl }
 
+pub must-behind : {A B : Type 0} (f : B → Bool) (r : ℕ) (p : Reader A) (q : A → Reader B) → Alike (seq p (λ a. must f r (q a))) (must f r (seq p q))
+unfolding must seq
+must-behind {A} f r p q s at = go (p .reads s at) refl
+  where
+    go : (x : Found A) → p .reads s at ≡ x → AlikeAt (seq p (λ a. must f r (q a))) (must f r (seq p q)) s at
+    go no e = record { reads = rw e; more = refl }
+    go (stop t) e = record { reads = rw e; more = refl }
+    go (got a n) e = record { reads = rw e; more = refl }
+
 pub alike-says : {A : Type 0} (p q : Reader A) → Alike p q → (s : List ℕ) (at : ℕ) (f : Found A) (m : Bool) → Says q s at f m → Says p s at f m
 alike-says p q e s at f m h = same-says (e s at) h
 
 pub alike-ends : {A : Type 0} {k : ℕ} {X : ℕ → Type 0} {F : A → Type 0} (p q : Reader A) {s : List ℕ} {at : ℕ} → Alike p q → Ends k X F q s at → Ends k X F p s at
 alike-ends p q {s} {at} e x = record { first = x .first; rest = x .rest; value = x .value; begins = x .begins; few = x .few; fact = x .fact; reads = e (s ++ x .first ∷ x .rest) at .reads ∙ x .reads }
 
-pub alike-hopeful : {A : Type 0} {k : ℕ} {F : A → Type 0} (p q : Reader A) → Alike p q → Hopeful k F q → Hopeful k F p
-alike-hopeful p q e hq s at le h = alike-ends p q e (hq s at le (sym (e s at .more) ∙ h))
+pub alike-hopeful : {W : Type 0} {A : Type 0} {k : ℕ} {F : A → Type 0} (p q : Reader A) → Alike p q → HopefulOr W k F q → HopefulOr W k F p
+alike-hopeful {W} {A} {k} {F} p q e hq s at le h = go (hq s at le (sym (e s at .more) ∙ h))
+  where
+    go : Ends k AnyByte F q s at ⊎ (W × Stops k q s at) → Ends k AnyByte F p s at ⊎ (W × Stops k p s at)
+    go (inl x) = inl (alike-ends p q e x)
+    go (inr (w, x)) = inr (w, record { more = x .more; few = x .few; value = x .value; place = x .place; number = x .number; now = e s at .reads ∙ x .now; stops = e (s ++ x .more) at .reads ∙ x .stops })

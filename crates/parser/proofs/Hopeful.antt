@@ -1,9 +1,11 @@
--- Where a byte more could matter, some few bytes more are read to the last one.
+-- Where a byte more could matter, some few bytes more are read to the last one; or, under rules that allow it, stop the reading of what is
+-- found now.
 use Prim.Native.Nat.{ℕ, suc, _+_, _≤_}
 use mathlib.Core.List.{List, _∷_, _++_, append-assoc}
 use mathlib.Core.Bool.{Bool, true, false}
 use mathlib.Core.Option.{Option, some, none}
 use mathlib.Core.Path.{_≡_, refl, sym, _∙_}
+use mathlib.Core.Logic.{_⊎_, inl, inr}
 use native.Mathlib.Omega.{arith}
 use lib.ListN.{length, length-append}
 use Rattle.parser.specs.Reading.{Found, no, got, stop, Reader, seq, after, opt, alt, failed, verify, map, give, or, and}
@@ -31,6 +33,31 @@ Anything a = Unit
 abbrev pub Hopeful : {A : Type 0} → ℕ → (A → Type 0) → Reader A → Type 0
 Hopeful k F p = (s : List ℕ) (at : ℕ) → at ≤ length s → p .more s at ≡ true → Ends k AnyByte F p s at
 
+-- At most k bytes after which p, that finds a value now, stops the reading.
+pub record Stops {A : Type 0} (k : ℕ) (p : Reader A) (s : List ℕ) (at : ℕ) : Type 0 where
+  pub more : List ℕ
+  pub few : length more ≤ k
+  pub value : A
+  pub place : ℕ
+  pub number : ℕ
+  pub now : p .reads s at ≡ got value place
+  pub stops : p .reads (s ++ more) at ≡ stop number
+
+-- the same, or these, where W allows them
+abbrev pub HopefulOr : Type 0 → {A : Type 0} → ℕ → (A → Type 0) → Reader A → Type 0
+HopefulOr W k F p = (s : List ℕ) (at : ℕ) → at ≤ length s → p .more s at ≡ true → Ends k AnyByte F p s at ⊎ (W × Stops k p s at)
+
+pub hopeful-or : {W : Type 0} {A : Type 0} {k : ℕ} {F : A → Type 0} {p : Reader A} → Hopeful k F p → HopefulOr W k F p
+hopeful-or hp s at le h = inl (hp s at le h)
+
+-- where nothing allows them
+pub never-stops : {A : Type 0} {k : ℕ} {F : A → Type 0} {p : Reader A} → HopefulOr ⊥ k F p → Hopeful k F p
+never-stops {A} {k} {F} {p} hp s at le h = go (hp s at le h)
+  where
+    go : Ends k AnyByte F p s at ⊎ (⊥ × Stops k p s at) → Ends k AnyByte F p s at
+    go (inl e) = e
+    go (inr (w, e)) = absurd w
+
 -- from the end of any input on
 abbrev pub Starts : {A : Type 0} → ℕ → (ℕ → Type 0) → (A → Type 0) → Reader A → Type 0
 Starts k X F p = (s : List ℕ) → Ends k X F p s (length s)
@@ -54,8 +81,12 @@ foreign-keeps X p fp s at a e le c y x = fp s c y at x le ∙ e
 pub ends-weaken : {A : Type 0} {j : ℕ} (k : ℕ) {X : ℕ → Type 0} (Y : ℕ → Type 0) {E : A → Type 0} (F : A → Type 0) {p : Reader A} {s : List ℕ} {at : ℕ} → j ≤ k → ((c : ℕ) → X c → Y c) → ((a : A) → E a → F a) → Ends j X E p s at → Ends k Y F p s at
 ends-weaken k Y F h f g e = record { first = e .first; rest = e .rest; value = e .value; begins = f (e .first) (e .begins); few = omega (arith, e .few); fact = g (e .value) (e .fact); reads = e .reads }
 
-pub hopeful-weaken : {A : Type 0} {j : ℕ} (k : ℕ) {E : A → Type 0} (F : A → Type 0) (p : Reader A) → j ≤ k → ((a : A) → E a → F a) → Hopeful j E p → Hopeful k F p
-hopeful-weaken k F p h g hp s at le m = ends-weaken k AnyByte F h (λ c x. x) g (hp s at le m)
+pub hopeful-weaken : {U W : Type 0} {A : Type 0} {j : ℕ} (k : ℕ) {E : A → Type 0} (F : A → Type 0) (p : Reader A) → (U → W) → j ≤ k → ((a : A) → E a → F a) → HopefulOr U j E p → HopefulOr W k F p
+hopeful-weaken {U} {W} {A} {j} k {E} F p f h g hp s at le m = go (hp s at le m)
+  where
+    go : Ends j AnyByte E p s at ⊎ (U × Stops j p s at) → Ends k AnyByte F p s at ⊎ (W × Stops k p s at)
+    go (inl e) = inl (ends-weaken k AnyByte F h (λ c x. x) g e)
+    go (inr (v, e)) = inr (f v, record { more = e .more; few = omega (arith, e .few); value = e .value; place = e .place; number = e .number; now = e .now; stops = e .stops })
 
 pub starts-weaken : {A : Type 0} {k : ℕ} {X : ℕ → Type 0} {F : A → Type 0} (p : Reader A) → Starts k X F p → Starts k AnyByte F p
 starts-weaken {A} {k} {X} {F} p st s = ends-weaken k AnyByte F (omega arith) (λ c x. tt) (λ a f. f) (st s)
@@ -133,9 +164,13 @@ ends-after p q s at le kp a ea st =
 
 -- ---- hope, combinator by combinator
 
-pub map-hopeful : {A B : Type 0} {k : ℕ} {E : A → Type 0} (F : B → Type 0) (f : A → B) (p : Reader A) → ((a : A) → E a → F (f a)) → Hopeful k E p → Hopeful k F (map f p)
+pub map-hopeful : {W : Type 0} {A B : Type 0} {k : ℕ} {E : A → Type 0} (F : B → Type 0) (f : A → B) (p : Reader A) → ((a : A) → E a → F (f a)) → HopefulOr W k E p → HopefulOr W k F (map f p)
 unfolding map
-map-hopeful F f p g hp s at le h = ends-map F f p g (hp s at le h)
+map-hopeful {W} {A} {B} {k} {E} F f p g hp s at le h = go (hp s at le h)
+  where
+    go : Ends k AnyByte E p s at ⊎ (W × Stops k p s at) → Ends k AnyByte F (map f p) s at ⊎ (W × Stops k (map f p) s at)
+    go (inl e) = inl (ends-map F f p g e)
+    go (inr (w, e)) = inr (w, record { more = e .more; few = e .few; value = f (e .value); place = e .place; number = e .number; now = rw (e .now); stops = rw (e .stops) })
 
 pub verify-hopeful : {A : Type 0} {k : ℕ} {F : A → Type 0} (f : A → Bool) (p : Reader A) → ((a : A) → F a → f a ≡ true) → Hopeful k F p → Hopeful k F (verify f p)
 unfolding verify
@@ -169,17 +204,22 @@ alt-hopeful {A} {k} {F} p q sp hp hq s at le h = go (p .more s at) refl
     go false em = second em (p .reads s at) refl (or-true _ _ em h)
 
 -- a sequence: how it ends where its first part is open, and the hope of what follows
-pub seq-hopeful : {A B : Type 0} {k : ℕ} {F : B → Type 0} (p : Reader A) (q : A → Reader B) → Stable p → Bounded p → ((s : List ℕ) (at : ℕ) → at ≤ length s → p .more s at ≡ true → Ends k AnyByte F (seq p q) s at) → ((a : A) → Hopeful k F (q a)) → Hopeful k F (seq p q)
+pub seq-hopeful : {W : Type 0} {A B : Type 0} {k : ℕ} {F : B → Type 0} (p : Reader A) (q : A → Reader B) → Stable p → Bounded p → ((s : List ℕ) (at : ℕ) → at ≤ length s → p .more s at ≡ true → Ends k AnyByte F (seq p q) s at) → ((a : A) → HopefulOr W k F (q a)) → HopefulOr W k F (seq p q)
 unfolding seq
-seq-hopeful {A} {B} {k} {F} p q sp bp hp hq s at le h = go (p .more s at) refl
+seq-hopeful {W} {A} {B} {k} {F} p q sp bp hp hq s at le h = go (p .more s at) refl
   where
-    second : p .more s at ≡ false → (f : Found A) → p .reads s at ≡ f → after f (λ a n. q a .more s n) ≡ true → Ends k AnyByte F (seq p q) s at
+    -- p is settled with a value, and what follows decides
+    on : p .more s at ≡ false → (a : A) (n : ℕ) → p .reads s at ≡ got a n → Ends k AnyByte F (q a) s n ⊎ (W × Stops k (q a) s n) → Ends k AnyByte F (seq p q) s at ⊎ (W × Stops k (seq p q) s at)
+    on em a n ef (inl e) = inl (ends-read-on p q sp em a n ef e)
+    on em a n ef (inr (w, e)) = inr (w, record { more = e .more; few = e .few; value = e .value; place = e .place; number = e .number; now = rw (ef, e .now); stops = rw (sp s (e .more) at em .reads, ef, e .stops) })
+
+    second : p .more s at ≡ false → (f : Found A) → p .reads s at ≡ f → after f (λ a n. q a .more s n) ≡ true → Ends k AnyByte F (seq p q) s at ⊎ (W × Stops k (seq p q) s at)
     second em no ef h = absurd (true≢false (sym h))
     second em (stop r) ef h = absurd (true≢false (sym h))
-    second em (got a n) ef h = ends-read-on p q sp em a n ef (hq a s n (bp s at le a n ef) h)
+    second em (got a n) ef h = on em a n ef (hq a s n (bp s at le a n ef) h)
 
-    go : (m : Bool) → p .more s at ≡ m → Ends k AnyByte F (seq p q) s at
-    go true em = hp s at le em
+    go : (m : Bool) → p .more s at ≡ m → Ends k AnyByte F (seq p q) s at ⊎ (W × Stops k (seq p q) s at)
+    go true em = inl (hp s at le em)
     go false em = second em (p .reads s at) refl (or-true _ _ em h)
 
 -- an optional item that is open at the end alone is left out there, where what follows starts with a byte that it never takes

@@ -9,16 +9,17 @@ use lib.ListN.{length}
 use lib.Dec.{ltb, leb}
 use borrow.Author.Tests.{leb-true, le-leb, eqb-true}
 use Rattle.parser.specs.Reading.{Reader, lit, seq, opt, alt, map, and}
-use Rattle.parser.specs.Digits.{isDigit, field, lowest, highest, reach, run, fraction}
+use Rattle.parser.specs.Digits.{isDigit, field, lowest, highest, reach, limit, run, fraction}
 use Rattle.parser.specs.Fields.{signed, either, precededBy}
 use Rattle.parser.proofs.Fields.{true≢false, and-first, and-second}
-use Rattle.parser.proofs.Stable.{lit-stable, opt-stable, field-stable, fraction-stable, run-stable}
-use Rattle.parser.proofs.Places.{Foreign, lit-bounded, opt-bounded, field-bounded, run-bounded, fraction-bounded, lit-fails, field-fails, run-fails, fraction-fails, seq-fails, lit-foreign, opt-foreign, run-foreign, fraction-foreign, field-foreign}
-use Rattle.parser.proofs.Hopeful.{Ends, AnyByte, Anything, Starts, Keeps, AtEnd, definite-keeps, at-end-definite, starts-weaken, left-out-starts}
+use Rattle.parser.proofs.Stable.{lit-stable, field-stable, fraction-stable}
+use Rattle.parser.proofs.Places.{Foreign, lit-bounded, field-bounded, fraction-bounded, lit-fails, field-fails, run-fails, fraction-fails, seq-fails, lit-foreign, fraction-foreign, field-foreign}
+use Rattle.parser.proofs.Steady.{opt-steady, run-steady}
+use Rattle.parser.proofs.Hopeful.{Ends, AnyByte, Anything, hopeful-or, Starts, Keeps, AtEnd, definite-keeps, at-end-definite, starts-weaken, left-out-starts}
 use Rattle.parser.proofs.Leaves.{From, Narrows, lit-starts, lit-at-end, lit-hopeful, map-at-end, alt-at-end, field-hopeful-in, field-starts, field-definite}
 use Rattle.parser.proofs.RunLeaves.{fraction-eager, fraction-hopeful, fraction-starts, run-eager, run-then-starts, run-then-ends}
 use Rattle.parser.proofs.General.{lit-eager, seq-eager, field-eager}
-use Rattle.parser.proofs.Lawful.{most, In, byte, member, Outside, told-apart, outside-digit, outside-other, seq-lawful, Item, forget, map-item, alt-item, then-item}
+use Rattle.parser.proofs.Lawful.{most, In, byte, member, Outside, told-apart, outside-digit, outside-other, seq-lawful, Item, ItemOr, forget, map-item, alt-item, then-item}
 
 -- ---- single bytes: items that are open at the end of the input alone
 
@@ -29,7 +30,7 @@ pub record Mark {A : Type 0} (l : List ℕ) (c : ℕ) (p : Reader A) : Type 0 wh
 pub lit-mark : {l : List ℕ} (c : ℕ) → member l c ≡ true → Mark l c (lit c)
 lit-mark {l} c h = record {
   item = record {
-    lawful = record { stable = lit-stable c; bounded = lit-bounded c; foreign = lit-foreign (Outside l) c (outside-other l c h); hopeful = lit-hopeful c };
+    lawful = record { steady = record { stable = lit-stable c; bounded = lit-bounded c; foreign = lit-foreign (Outside l) c (outside-other l c h) }; hopeful = hopeful-or (lit-hopeful c) };
     fails = lit-fails c;
     eager = lit-eager c;
     starts = lit-starts c;
@@ -50,14 +51,14 @@ pub signed-mark : {l : List ℕ} → member l 45 ≡ true → member l 43 ≡ tr
 signed-mark h g = alt-mark (map-mark (λ _. true) (lit-mark 45 h)) (map-mark (λ _. false) (lit-mark 43 g))
 
 -- a byte and what must follow it
-pub after-item : {A B : Type 0} {l : List ℕ} {c : ℕ} {Z : ℕ → Bool} {k n : ℕ} {F : B → Type 0} {p : Reader A} {q : A → Reader B} → Mark l c p → ((a : A) → Item l Z k n F (q a)) → Item l (byte c) (1 + k) (most (1 + k) n) F (seq p q)
-after-item {Z = Z} {p = p} hp hq = then-item (definite-keeps (In Z) p (hp .item .lawful .stable) (at-end-definite p (hp .at-end) (hp .item .fails))) (hp .item) hq
+pub after-item : {W : Type 0} {A B : Type 0} {l : List ℕ} {c : ℕ} {Z : ℕ → Bool} {k n : ℕ} {F : B → Type 0} {p : Reader A} {q : A → Reader B} → Mark l c p → ((a : A) → ItemOr W l Z k n F (q a)) → ItemOr W l (byte c) (1 + k) (most (1 + k) n) F (seq p q)
+after-item {Z = Z} {p = p} hp hq = then-item (definite-keeps (In Z) p (hp .item .lawful .steady .stable) (at-end-definite p (hp .at-end) (hp .item .fails))) (hp .item) hq
 
 -- an optional byte in front is left out where the input ends, if what follows starts with another
-pub left-out-item : {A B : Type 0} {l : List ℕ} {c : ℕ} {Z : ℕ → Bool} {k n : ℕ} {F : B → Type 0} {p : Reader A} {q : Option A → Reader B} → Mark l c p → Foreign (In Z) p → ((o : Option A) → Item l Z k n F (q o)) → Item l Z k (most k n) F (seq (opt p) q)
+pub left-out-item : {W : Type 0} {A B : Type 0} {l : List ℕ} {c : ℕ} {Z : ℕ → Bool} {k n : ℕ} {F : B → Type 0} {p : Reader A} {q : Option A → Reader B} → Mark l c p → Foreign (In Z) p → ((o : Option A) → ItemOr W l Z k n F (q o)) → ItemOr W l Z k (most k n) F (seq (opt p) q)
 unfolding opt seq
 left-out-item {l = l} {Z = Z} {k = k} {F = F} {p = p} {q = q} hp other hq = record {
-  lawful = seq-lawful (opt-stable p (hp .item .lawful .stable)) (opt-bounded p (hp .item .lawful .bounded)) (opt-foreign (Outside l) p (hp .item .lawful .foreign)) ends (λ o. hq o .lawful);
+  lawful = seq-lawful (opt-steady (hp .item .lawful .steady)) ends (λ o. hq o .lawful);
   fails = λ s at e. rw (hp .item .fails s at e) (hq none .fails s at e);
   eager = λ s at e. rw (hp .item .eager s at e);
   starts = begun;
@@ -71,7 +72,7 @@ left-out-item {l = l} {Z = Z} {k = k} {F = F} {p = p} {q = q} hp other hq = reco
         let here : length s ≡ at = omega (arith, hp .at-end s at e) in
         rw (← here) (starts-weaken (seq (opt p) q) begun s)
 
-pub preceded-item : {A : Type 0} {l : List ℕ} (c : ℕ) {Z : ℕ → Bool} {k n : ℕ} {F : A → Type 0} {p : Reader A} → member l c ≡ true → Z c ≡ false → Item l Z k n F p → Item l Z k (most k n) F (precededBy c p)
+pub preceded-item : {W : Type 0} {A : Type 0} {l : List ℕ} (c : ℕ) {Z : ℕ → Bool} {k n : ℕ} {F : A → Type 0} {p : Reader A} → member l c ≡ true → Z c ≡ false → ItemOr W l Z k n F p → ItemOr W l Z k (most k n) F (precededBy c p)
 preceded-item c {Z} h o hp = left-out-item (lit-mark c h) (lit-foreign (In Z) c (λ b i. told-apart Z b c (λ e. true≢false (sym i ∙ e ∙ o)))) (λ _. hp)
 
 -- ---- fields
@@ -104,10 +105,8 @@ pub field-item-in : {l : List ℕ} (n lo hi lo′ hi′ : ℕ) → and (leb lo l
 field-item-in zero lo hi lo′ hi′ h narrows = absurd (true≢false (sym (and-second (leb hi′ hi) (and-second (leb lo lo′) h))))
 field-item-in {l} (suc n) lo hi lo′ hi′ h narrows = record {
   lawful = record {
-    stable = field-stable (suc n) lo hi;
-    bounded = field-bounded (suc n) lo hi;
-    foreign = field-foreign (Outside l) (suc n) lo hi (outside-digit l);
-    hopeful = field-hopeful-in (suc n) lo hi lo′ hi′ a b ab narrows;
+    steady = record { stable = field-stable (suc n) lo hi; bounded = field-bounded (suc n) lo hi; foreign = field-foreign (Outside l) (suc n) lo hi (outside-digit l) };
+    hopeful = hopeful-or (field-hopeful-in (suc n) lo hi lo′ hi′ a b ab narrows);
   };
   fails = field-fails (suc n) lo hi (omega arith);
   eager = field-eager (suc n) lo hi (omega arith) (reached (suc n) lo hi (omega (arith, a, c)));
@@ -139,7 +138,7 @@ field-keeps n lo hi = definite-keeps (In isDigit) (field n lo hi) (field-stable 
 
 pub fraction-item : {l : List ℕ} → Item l isDigit 1 1 Anything fraction
 fraction-item {l} = record {
-  lawful = record { stable = fraction-stable; bounded = fraction-bounded; foreign = fraction-foreign (Outside l) (outside-digit l); hopeful = fraction-hopeful };
+  lawful = record { steady = record { stable = fraction-stable; bounded = fraction-bounded; foreign = fraction-foreign (Outside l) (outside-digit l) }; hopeful = hopeful-or fraction-hopeful };
   fails = fraction-fails;
   eager = fraction-eager;
   starts = fraction-starts;
@@ -148,9 +147,9 @@ fraction-item {l} = record {
 -- a run and what must follow it, which starts with the byte c
 pub run-item : {B : Type 0} {l : List ℕ} (c : ℕ) {k n : ℕ} {F : B → Type 0} {q : ℕ → Reader B} → isDigit c ≡ false → ((v : ℕ) → Item l (byte c) k n F (q v)) → Item l isDigit (1 + k) (most (1 + k) n) F (seq run q)
 run-item {l = l} c {k = k} {F = F} {q = q} d hq = record {
-  lawful = seq-lawful run-stable run-bounded (run-foreign (Outside l) (outside-digit l)) (run-then-ends (In (byte c)) q other begun) (λ v. hq v .lawful);
-  fails = seq-fails run q run-fails;
-  eager = seq-eager run q run-eager;
+  lawful = seq-lawful (run-steady limit 2 (outside-digit l)) (run-then-ends (In (byte c)) q other begun) (λ v. hq v .lawful);
+  fails = seq-fails run q (run-fails limit 2);
+  eager = seq-eager run q (run-eager limit 2);
   starts = run-then-starts (In (byte c)) q other begun;
 }
   where

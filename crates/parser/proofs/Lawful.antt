@@ -12,11 +12,10 @@ use Rattle.parser.specs.Reading.{Found, Reader, seq, opt, alt, verify, m
 use Rattle.parser.specs.Answer.{begun, Begins, verdictOf}
 use Rattle.parser.specs.Digits.{isDigit}
 use Rattle.parser.proofs.Fields.{true≢false, and-first, and-second}
-use Rattle.parser.proofs.Stable.{Stable, or-false, give-stable, verify-stable, map-stable, opt-stable, seq-stable, alt-stable}
-use Rattle.parser.proofs.Places.{Bounded, give-bounded, seq-bounded, opt-bounded, alt-bounded, verify-bounded, map-bounded}
+use Rattle.parser.proofs.Stable.{or-false}
 use Rattle.parser.proofs.Places.{Fails, Skips, seq-fails, alt-fails, map-fails, opt-skips, give-skips, seq-skips, map-skips, verify-skips}
-use Rattle.parser.proofs.Places.{Foreign, give-foreign, seq-foreign, opt-foreign, alt-foreign, verify-foreign, map-foreign}
-use Rattle.parser.proofs.Hopeful.{Ends, AnyByte, Anything, Hopeful, Starts, Keeps, foreign-keeps, ends-weaken, hopeful-weaken, ends-map, ends-verify, ends-opt, ends-alt, ends-then-skips, ends-then-starts, map-hopeful, verify-hopeful, opt-hopeful, give-hopeful, alt-hopeful, seq-hopeful}
+use Rattle.parser.proofs.Steady.{Steady, give-steady, map-steady, verify-steady, opt-steady, alt-steady, seq-steady}
+use Rattle.parser.proofs.Hopeful.{Ends, AnyByte, Anything, Hopeful, HopefulOr, hopeful-or, never-stops, Starts, Keeps, foreign-keeps, ends-weaken, hopeful-weaken, ends-map, ends-verify, ends-opt, ends-alt, ends-then-skips, ends-then-starts, map-hopeful, verify-hopeful, opt-hopeful, give-hopeful, alt-hopeful, seq-hopeful}
 use Rattle.parser.proofs.Verdict.{says-begins}
 use Rattle.parser.proofs.Alike.{Alike, alike-ends, alike-hopeful}
 use Rattle.parser.proofs.General.{Eager, seq-eager, map-eager, alt-eager}
@@ -80,52 +79,62 @@ outside-fewer (c ∷ m) l h b o =
     let r = outside-fewer m l (and-second (member l c) h) b o in
     rw (outside-digit l b o, outside-other l c (and-first (member l c) (among m l) h) b o) (or-false (isDigit b) (member m b) r .1)
 
--- ---- the laws of any part: it takes digits and bytes of l alone; where it is open, at most k bytes complete it, with a fact F
+-- ---- the laws of any part: it takes digits and bytes of l alone; where it is open, at most k bytes complete it, with a fact F, or, where W
+-- allows that, stop the reading of what it finds
 
-pub record Lawful {A : Type 0} (l : List ℕ) (k : ℕ) (F : A → Type 0) (p : Reader A) : Type 0 where
-  pub stable : Stable p
-  pub bounded : Bounded p
-  pub foreign : Foreign (Outside l) p
-  pub hopeful : Hopeful k F p
+pub record LawfulOr (W : Type 0) {A : Type 0} (l : List ℕ) (k : ℕ) (F : A → Type 0) (p : Reader A) : Type 0 where
+  pub steady : Steady (Outside l) p
+  pub hopeful : HopefulOr W k F p
 
-weaken-lawful : {A : Type 0} {m l : List ℕ} {k : ℕ} {E F : A → Type 0} {p : Reader A} → ((b : ℕ) → Outside l b → Outside m b) → ((a : A) → E a → F a) → Lawful m k E p → Lawful l k F p
-weaken-lawful {k = k} {F = F} {p = p} h g hp = record { stable = hp .stable; bounded = hp .bounded; foreign = λ s c y at o. hp .foreign s c y at (h c o); hopeful = hopeful-weaken k F p (omega arith) g (hp .hopeful) }
+abbrev pub Lawful : {A : Type 0} → List ℕ → ℕ → (A → Type 0) → Reader A → Type 0
+Lawful l k F p = LawfulOr ⊥ l k F p
 
-map-lawful : {A B : Type 0} {l : List ℕ} {k : ℕ} {E : A → Type 0} (f : A → B) {p : Reader A} → Lawful l k E p → Lawful l k Anything (map f p)
-map-lawful {A} {B} {l} f {p} hp = record { stable = map-stable f p (hp .stable); bounded = map-bounded f p (hp .bounded); foreign = map-foreign (Outside l) f p (hp .foreign); hopeful = map-hopeful Anything f p (λ a e. tt) (hp .hopeful) }
+weaken-lawful : {U W : Type 0} {A : Type 0} {m l : List ℕ} {k : ℕ} {E F : A → Type 0} {p : Reader A} → (U → W) → ((b : ℕ) → Outside l b → Outside m b) → ((a : A) → E a → F a) → LawfulOr U m k E p → LawfulOr W l k F p
+weaken-lawful {k = k} {F = F} {p = p} f h g hp =
+    let x = hp .steady in
+    record { steady = record { stable = x .stable; bounded = x .bounded; foreign = λ s c y at o. x .foreign s c y at (h c o) }; hopeful = hopeful-weaken k F p f (omega arith) g (hp .hopeful) }
+
+map-lawful : {W : Type 0} {A B : Type 0} {l : List ℕ} {k : ℕ} {E : A → Type 0} (f : A → B) {p : Reader A} → LawfulOr W l k E p → LawfulOr W l k Anything (map f p)
+map-lawful f {p} hp = record { steady = map-steady f (hp .steady); hopeful = map-hopeful Anything f p (λ a e. tt) (hp .hopeful) }
 
 verify-lawful : {A : Type 0} {l : List ℕ} {k : ℕ} {F : A → Type 0} (f : A → Bool) {p : Reader A} → ((a : A) → F a → f a ≡ true) → Lawful l k F p → Lawful l k F (verify f p)
-verify-lawful {A} {l} f {p} g hp = record { stable = verify-stable f p (hp .stable); bounded = verify-bounded f p (hp .bounded); foreign = verify-foreign (Outside l) f p (hp .foreign); hopeful = verify-hopeful f p g (hp .hopeful) }
+verify-lawful f {p} g hp = record { steady = verify-steady f (hp .steady); hopeful = hopeful-or (verify-hopeful f p g (never-stops (hp .hopeful))) }
 
 opt-lawful : {A : Type 0} {l : List ℕ} {k : ℕ} {E : A → Type 0} {F : Option A → Type 0} {p : Reader A} → ((a : A) → E a → F (some a)) → Lawful l k E p → Lawful l k F (opt p)
-opt-lawful {A} {l} {k} {E} {F} {p} g hp = record { stable = opt-stable p (hp .stable); bounded = opt-bounded p (hp .bounded); foreign = opt-foreign (Outside l) p (hp .foreign); hopeful = opt-hopeful F p g (hp .hopeful) }
+opt-lawful {F = F} {p = p} g hp = record { steady = opt-steady (hp .steady); hopeful = hopeful-or (opt-hopeful F p g (never-stops (hp .hopeful))) }
 
 alt-lawful : {A : Type 0} {l : List ℕ} {j k : ℕ} {F : A → Type 0} {p q : Reader A} → Lawful l j F p → Lawful l k F q → Lawful l (most j k) F (alt p q)
-alt-lawful {A} {l} {j} {k} {F} {p} {q} hp hq = record {
-  stable = alt-stable p q (hp .stable) (hq .stable);
-  bounded = alt-bounded p q (hp .bounded) (hq .bounded);
-  foreign = alt-foreign (Outside l) p q (hp .foreign) (hq .foreign);
-  hopeful = alt-hopeful p q (hp .stable) (hopeful-weaken (most j k) F p (most-left j k) (λ a f. f) (hp .hopeful)) (hopeful-weaken (most j k) F q (most-right j k) (λ a f. f) (hq .hopeful));
-}
+alt-lawful {A} {l} {j} {k} {F} {p} {q} hp hq = record { steady = alt-steady (hp .steady) (hq .steady); hopeful = hopeful-or (alt-hopeful p q (hp .steady .stable) first second) }
+  where
+    first : Hopeful (most j k) F p
+    first = never-stops (hopeful-weaken (most j k) F p (λ w. w) (most-left j k) (λ a f. f) (hp .hopeful))
+
+    second : Hopeful (most j k) F q
+    second = never-stops (hopeful-weaken (most j k) F q (λ w. w) (most-right j k) (λ a f. f) (hq .hopeful))
 
 -- how a sequence ends where its first part is open, and the laws of what follows
-pub seq-lawful : {A B : Type 0} {l : List ℕ} {j k : ℕ} {F : B → Type 0} {p : Reader A} {q : A → Reader B} → Stable p → Bounded p → Foreign (Outside l) p → ((s : List ℕ) (at : ℕ) → at ≤ length s → p .more s at ≡ true → Ends j AnyByte F (seq p q) s at) → ((a : A) → Lawful l k F (q a)) → Lawful l (most j k) F (seq p q)
-seq-lawful {A} {B} {l} {j} {k} {F} {p} {q} sp bp fp ends hq = record {
-  stable = seq-stable p q sp (λ a. hq a .stable);
-  bounded = seq-bounded p q bp (λ a. hq a .bounded);
-  foreign = seq-foreign (Outside l) p q bp fp (λ a. hq a .foreign);
-  hopeful = seq-hopeful p q sp bp (λ s at le h. ends-weaken (most j k) AnyByte F (most-left j k) (λ c x. x) (λ b f. f) (ends s at le h)) (λ a. hopeful-weaken (most j k) F (q a) (most-right j k) (λ b f. f) (hq a .hopeful));
+pub seq-lawful : {W : Type 0} {A B : Type 0} {l : List ℕ} {j k : ℕ} {F : B → Type 0} {p : Reader A} {q : A → Reader B} → Steady (Outside l) p → ((s : List ℕ) (at : ℕ) → at ≤ length s → p .more s at ≡ true → Ends j AnyByte F (seq p q) s at) → ((a : A) → LawfulOr W l k F (q a)) → LawfulOr W l (most j k) F (seq p q)
+seq-lawful {j = j} {k = k} {F = F} {p = p} {q = q} hp ends hq = record {
+  steady = seq-steady hp (λ a. hq a .steady);
+  hopeful = seq-hopeful p q (hp .stable) (hp .bounded) (λ s at le h. ends-weaken (most j k) AnyByte F (most-left j k) (λ c x. x) (λ b f. f) (ends s at le h)) (λ a. hopeful-weaken (most j k) F (q a) (λ w. w) (most-right j k) (λ b f. f) (hq a .hopeful));
 }
 
 -- so what code says of a part at the beginning is what a reader has to promise
-pub lawful-begins : {A : Type 0} {l : List ℕ} {k : ℕ} {F : A → Type 0} {p : Reader A} → Lawful l k F p → (s : List ℕ) (f : Found A) (m : Bool) → Says p s 0 f m → Begins k p s (begun f) (verdictOf m)
-lawful-begins {k = k} {F = F} {p = p} hp = says-begins k F p (hp .stable) (hp .bounded) (hp .hopeful)
+pub lawful-begins : {W : Type 0} {A : Type 0} {l : List ℕ} {k : ℕ} {F : A → Type 0} {p : Reader A} → LawfulOr W l k F p → (s : List ℕ) (f : Found A) (m : Bool) → Says p s 0 f m → Begins k p s (begun f) (verdictOf m)
+lawful-begins {k = k} {F = F} {p = p} hp = says-begins k F p (hp .steady .stable) (hp .steady .bounded) (hp .hopeful)
 
 -- ---- what may be absent: past the end it takes nothing, where C holds, and its value has the fact
 
-pub record TailIf {A : Type 0} (C : Type 0) (l : List ℕ) (k : ℕ) (F : A → Type 0) (p : Reader A) : Type 0 where
-  pub lawful : Lawful l k F p
+pub record TailOr (W : Type 0) {A : Type 0} (C : Type 0) (l : List ℕ) (k : ℕ) (F : A → Type 0) (p : Reader A) : Type 0 where
+  pub lawful : LawfulOr W l k F p
   pub skips : C → Skips F p
+
+abbrev pub TailIf : {A : Type 0} → Type 0 → List ℕ → ℕ → (A → Type 0) → Reader A → Type 0
+TailIf C l k F p = TailOr ⊥ C l k F p
+
+-- one that never stops the reading, where that is allowed
+pub tail-or : {W : Type 0} {A : Type 0} {C : Type 0} {l : List ℕ} {k : ℕ} {F : A → Type 0} {p : Reader A} → TailIf C l k F p → TailOr W C l k F p
+tail-or hp = record { lawful = weaken-lawful (λ w. absurd w) (λ b o. o) (λ a f. f) (hp .lawful); skips = hp .skips }
 
 -- absent anywhere, and with no fact
 abbrev pub Tail : {A : Type 0} → List ℕ → ℕ → Reader A → Type 0
@@ -133,7 +142,7 @@ Tail l k p = TailIf Unit l k Anything p
 
 pub give-tail : {A : Type 0} {l : List ℕ} {F : A → Type 0} (a : A) → TailIf (F a) l 0 F (give a)
 give-tail {A} {l} {F} a = record {
-  lawful = record { stable = give-stable a; bounded = give-bounded a; foreign = give-foreign (Outside l) a; hopeful = give-hopeful a };
+  lawful = record { steady = give-steady a; hopeful = hopeful-or (give-hopeful a) };
   skips = give-skips F a;
 }
 
@@ -146,29 +155,32 @@ map-tail {E = E} f {p} hp = record { lawful = map-lawful f (hp .lawful); skips =
 
 pub seq-tail : {A B : Type 0} {C : Type 0} {l : List ℕ} {j k : ℕ} {E : A → Type 0} {F : B → Type 0} {p : Reader A} {q : A → Reader B} → TailIf C l j E p → ((a : A) → TailIf (E a) l k F (q a)) → TailIf C l (most j k) F (seq p q)
 seq-tail {E = E} {F = F} {p = p} {q = q} hp hq = record {
-  lawful = seq-lawful (hp .lawful .stable) (hp .lawful .bounded) (hp .lawful .foreign) (λ s at le h. ends-then-skips F p q (λ a. hq a .skips) (hp .lawful .hopeful s at le h)) (λ a. hq a .lawful);
+  lawful = seq-lawful (hp .lawful .steady) (λ s at le h. ends-then-skips F p q (λ a. hq a .skips) (never-stops (hp .lawful .hopeful) s at le h)) (λ a. hq a .lawful);
   skips = λ c. seq-skips E F p q (hp .skips c) (λ a. hq a .skips);
 }
 
 -- ---- what must be there: past the end it finds nothing and is open, and at most j bytes, the first a byte of Y, are read whole
 
-pub record Item {A : Type 0} (l : List ℕ) (Y : ℕ → Bool) (j k : ℕ) (F : A → Type 0) (p : Reader A) : Type 0 where
-  pub lawful : Lawful l k F p
+pub record ItemOr (W : Type 0) {A : Type 0} (l : List ℕ) (Y : ℕ → Bool) (j k : ℕ) (F : A → Type 0) (p : Reader A) : Type 0 where
+  pub lawful : LawfulOr W l k F p
   pub fails : Fails p
   pub eager : Eager p
   pub starts : Starts j (In Y) F p
 
-weaken : {A : Type 0} {m l : List ℕ} {Y : ℕ → Bool} {j k : ℕ} {E F : A → Type 0} {p : Reader A} → ((b : ℕ) → Outside l b → Outside m b) → ((a : A) → E a → F a) → Item m Y j k E p → Item l Y j k F p
-weaken {Y = Y} {j = j} {F = F} h g hp = record { lawful = weaken-lawful h g (hp .lawful); fails = hp .fails; eager = hp .eager; starts = λ s. ends-weaken j (In Y) F (omega arith) (λ c x. x) g (hp .starts s) }
+abbrev pub Item : {A : Type 0} → List ℕ → (ℕ → Bool) → ℕ → ℕ → (A → Type 0) → Reader A → Type 0
+Item l Y j k F p = ItemOr ⊥ l Y j k F p
+
+weaken : {U W : Type 0} {A : Type 0} {m l : List ℕ} {Y : ℕ → Bool} {j k : ℕ} {E F : A → Type 0} {p : Reader A} → (U → W) → ((b : ℕ) → Outside l b → Outside m b) → ((a : A) → E a → F a) → ItemOr U m Y j k E p → ItemOr W l Y j k F p
+weaken {Y = Y} {j = j} {F = F} f h g hp = record { lawful = weaken-lawful f h g (hp .lawful); fails = hp .fails; eager = hp .eager; starts = λ s. ends-weaken j (In Y) F (omega arith) (λ c x. x) g (hp .starts s) }
 
 -- more bytes may be taken, and a fact be forgotten
-pub widen : {A : Type 0} {m l : List ℕ} {Y : ℕ → Bool} {j k : ℕ} {F : A → Type 0} {p : Reader A} → among m l ≡ true → Item m Y j k F p → Item l Y j k F p
-widen {m = m} {l = l} h = weaken (outside-fewer m l h) (λ a f. f)
+pub widen : {W : Type 0} {A : Type 0} {m l : List ℕ} {Y : ℕ → Bool} {j k : ℕ} {F : A → Type 0} {p : Reader A} → among m l ≡ true → ItemOr W m Y j k F p → ItemOr W l Y j k F p
+widen {m = m} {l = l} h = weaken (λ w. w) (outside-fewer m l h) (λ a f. f)
 
 pub forget : {A : Type 0} {l : List ℕ} {Y : ℕ → Bool} {j k : ℕ} {F : A → Type 0} {p : Reader A} → Item l Y j k F p → Item l Y j k Anything p
-forget = weaken (λ b o. o) (λ a f. tt)
+forget = weaken (λ w. w) (λ b o. o) (λ a f. tt)
 
-pub map-item : {A B : Type 0} {l : List ℕ} {Y : ℕ → Bool} {j k : ℕ} {E : A → Type 0} (f : A → B) {p : Reader A} → Item l Y j k E p → Item l Y j k Anything (map f p)
+pub map-item : {W : Type 0} {A B : Type 0} {l : List ℕ} {Y : ℕ → Bool} {j k : ℕ} {E : A → Type 0} (f : A → B) {p : Reader A} → ItemOr W l Y j k E p → ItemOr W l Y j k Anything (map f p)
 map-item f {p} hp = record { lawful = map-lawful f (hp .lawful); fails = map-fails f p (hp .fails); eager = map-eager f p (hp .eager); starts = λ s. ends-map Anything f p (λ a e. tt) (hp .starts s) }
 
 pub alt-item : {A : Type 0} {l : List ℕ} {Y Z : ℕ → Bool} {i j k n : ℕ} {F : A → Type 0} {p q : Reader A} → Item l Y i j F p → Item l Z k n F q → Item l Y i (most j n) F (alt p q)
@@ -186,9 +198,9 @@ pub tested-tail : {A : Type 0} {l : List ℕ} {Y : ℕ → Bool} {j k : ℕ} {E 
 tested-tail f {p} hp g = let t = opt-tail-if hp g in record { lawful = verify-lawful f (λ o e. e) (t .lawful); skips = λ c. verify-skips (λ o. f o ≡ true) f (opt p) (λ o e. e) (t .skips c) }
 
 -- an item and what may follow it
-pub seq-item : {A B : Type 0} {l : List ℕ} {Y : ℕ → Bool} {i j k : ℕ} {E : A → Type 0} {F : B → Type 0} {p : Reader A} {q : A → Reader B} → Item l Y i j E p → ((a : A) → TailIf (E a) l k F (q a)) → Item l Y i (most j k) F (seq p q)
+pub seq-item : {W : Type 0} {A B : Type 0} {l : List ℕ} {Y : ℕ → Bool} {i j k : ℕ} {E : A → Type 0} {F : B → Type 0} {p : Reader A} {q : A → Reader B} → Item l Y i j E p → ((a : A) → TailOr W (E a) l k F (q a)) → ItemOr W l Y i (most j k) F (seq p q)
 seq-item {F = F} {p = p} {q = q} hp hq = record {
-  lawful = seq-lawful (hp .lawful .stable) (hp .lawful .bounded) (hp .lawful .foreign) (λ s at le h. ends-then-skips F p q (λ a. hq a .skips) (hp .lawful .hopeful s at le h)) (λ a. hq a .lawful);
+  lawful = seq-lawful (hp .lawful .steady) (λ s at le h. ends-then-skips F p q (λ a. hq a .skips) (never-stops (hp .lawful .hopeful) s at le h)) (λ a. hq a .lawful);
   fails = seq-fails p q (hp .fails);
   eager = seq-eager p q (hp .eager);
   starts = λ s. ends-then-skips F p q (λ a. hq a .skips) (hp .starts s);
@@ -196,24 +208,26 @@ seq-item {F = F} {p = p} {q = q} hp hq = record {
 
 -- a byte that a part never takes leaves it as it is
 pub outside-keeps : {A : Type 0} {l : List ℕ} {k : ℕ} {F : A → Type 0} {p : Reader A} (c : ℕ) → Outside l c → Lawful l k F p → Keeps (In (byte c)) p
-outside-keeps {p = p} c o hp = foreign-keeps (In (byte c)) p (λ s b y at e le. hp .foreign s b y at (rw (eqb-true b c e) o) le)
+outside-keeps {p = p} c o hp = foreign-keeps (In (byte c)) p (λ s b y at e le. hp .steady .foreign s b y at (rw (eqb-true b c e) o) le)
 
 -- an item and the one that must follow it, whose first byte leaves the first as it is
-pub then-item : {A B : Type 0} {l : List ℕ} {Y Z : ℕ → Bool} {i j k n : ℕ} {E : A → Type 0} {F : B → Type 0} {p : Reader A} {q : A → Reader B} → Keeps (In Z) p → Item l Y i j E p → ((a : A) → Item l Z k n F (q a)) → Item l Y (i + k) (most (j + k) n) F (seq p q)
+pub then-item : {W : Type 0} {A B : Type 0} {l : List ℕ} {Y Z : ℕ → Bool} {i j k n : ℕ} {E : A → Type 0} {F : B → Type 0} {p : Reader A} {q : A → Reader B} → Keeps (In Z) p → Item l Y i j E p → ((a : A) → ItemOr W l Z k n F (q a)) → ItemOr W l Y (i + k) (most (j + k) n) F (seq p q)
 then-item {Z = Z} {i = i} {j = j} {k = k} {F = F} {p = p} {q = q} kp hp hq = record {
-  lawful = seq-lawful (hp .lawful .stable) (hp .lawful .bounded) (hp .lawful .foreign) (λ s at le h. ends-then-starts j k (In Z) F p q le kp (λ a e. hq a .starts) (hp .lawful .hopeful s at le h)) (λ a. hq a .lawful);
+  lawful = seq-lawful (hp .lawful .steady) (λ s at le h. ends-then-starts j k (In Z) F p q le kp (λ a e. hq a .starts) (never-stops (hp .lawful .hopeful) s at le h)) (λ a. hq a .lawful);
   fails = seq-fails p q (hp .fails);
   eager = seq-eager p q (hp .eager);
   starts = λ s. ends-then-starts i k (In Z) F p q (omega arith) kp (λ a e. hq a .starts) (hp .starts s);
 }
 
 -- a reader that is read alike has the same laws
-pub alike-item : {A : Type 0} {l : List ℕ} {Y : ℕ → Bool} {j k : ℕ} {F : A → Type 0} {p q : Reader A} → Alike p q → Item l Y j k F q → Item l Y j k F p
+pub alike-item : {W : Type 0} {A : Type 0} {l : List ℕ} {Y : ℕ → Bool} {j k : ℕ} {F : A → Type 0} {p q : Reader A} → Alike p q → ItemOr W l Y j k F q → ItemOr W l Y j k F p
 alike-item {p = p} {q = q} e hq = record {
   lawful = record {
-    stable = λ s x at h. let g = hq .lawful .stable s x at (sym (e s at .more) ∙ h) in record { reads = e (s ++ x) at .reads ∙ g .reads ∙ sym (e s at .reads); more = e (s ++ x) at .more ∙ g .more };
-    bounded = λ s at le a n h. hq .lawful .bounded s at le a n (sym (e s at .reads) ∙ h);
-    foreign = λ s c y at x le. e (s ++ c ∷ y) at .reads ∙ hq .lawful .foreign s c y at x le ∙ sym (e s at .reads);
+    steady = record {
+      stable = λ s x at h. let g = hq .lawful .steady .stable s x at (sym (e s at .more) ∙ h) in record { reads = e (s ++ x) at .reads ∙ g .reads ∙ sym (e s at .reads); more = e (s ++ x) at .more ∙ g .more };
+      bounded = λ s at le a n h. hq .lawful .steady .bounded s at le a n (sym (e s at .reads) ∙ h);
+      foreign = λ s c y at x le. e (s ++ c ∷ y) at .reads ∙ hq .lawful .steady .foreign s c y at x le ∙ sym (e s at .reads);
+    };
     hopeful = alike-hopeful p q e (hq .lawful .hopeful);
   };
   fails = λ s at h. e s at .reads ∙ hq .fails s at h;

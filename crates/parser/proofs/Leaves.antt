@@ -238,6 +238,25 @@ pub field-within : (n lo hi : ℕ) (s : List ℕ) (at a m : ℕ) → field n lo 
 unfolding field
 field-within n lo hi s at a m e = digits-within lo hi n 0 s at a m e
 
+-- and what lies in a range is read in a wider one too
+digits-wider : (lo hi lo′ hi′ n v : ℕ) (s : List ℕ) (at a m : ℕ) → lo′ ≤ lo → hi ≤ hi′ → digitsFrom lo hi n v s at ≡ got a m → digitsFrom lo′ hi′ n v s at ≡ got a m
+unfolding digitsFrom
+digits-wider lo hi lo′ hi′ zero v s at a m l h e = go (leb lo v) (leb v hi) refl refl e
+  where
+    go : (t u : Bool) → leb lo v ≡ t → leb v hi ≡ u → pick (and t u) (got v at) no ≡ got a m → pick (and (leb lo′ v) (leb v hi′)) (got v at) no ≡ got a m
+    go true true x y e = rw (le-leb lo′ v (omega (arith, leb-true lo v x)), le-leb v hi′ (omega (arith, leb-true v hi y))) e
+    go true false x y e = absurd (no≢got e)
+    go false u x y e = absurd (no≢got e)
+digits-wider lo hi lo′ hi′ (suc n) v s at a m l h e = go (and (ltb at (length s)) (isDigit (getD s at 0))) e (digits-wider lo hi lo′ hi′ n (v * 10 + (getD s at 0 - 48)) s (at + 1) a m l h)
+  where
+    go : (t : Bool) → pick t (digitsFrom lo hi n (v * 10 + (getD s at 0 - 48)) s (at + 1)) no ≡ got a m → (digitsFrom lo hi n (v * 10 + (getD s at 0 - 48)) s (at + 1) ≡ got a m → digitsFrom lo′ hi′ n (v * 10 + (getD s at 0 - 48)) s (at + 1) ≡ got a m) → pick t (digitsFrom lo′ hi′ n (v * 10 + (getD s at 0 - 48)) s (at + 1)) no ≡ got a m
+    go true e ih = ih e
+    go false e ih = absurd (no≢got e)
+
+pub field-wider : (n lo hi lo′ hi′ : ℕ) (s : List ℕ) (at a m : ℕ) → lo′ ≤ lo → hi ≤ hi′ → field n lo hi .reads s at ≡ got a m → field n lo′ hi′ .reads s at ≡ got a m
+unfolding field
+field-wider n lo hi lo′ hi′ s at a m l h e = digits-wider lo hi lo′ hi′ n 0 s at a m l h e
+
 pub preceded-within : (c n lo hi : ℕ) (s : List ℕ) (at a m : ℕ) → precededBy c (field n lo hi) .reads s at ≡ got a m → From lo hi a
 unfolding seq opt
 preceded-within c n lo hi s at a m e = go (lit c .reads s at) e

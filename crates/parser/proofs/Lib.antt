@@ -2,6 +2,7 @@ pub mod Fields
 pub mod Runs
 pub mod Stable
 pub mod Places
+pub mod Steady
 pub mod Hopeful
 pub mod Leaves
 pub mod RunLeaves
@@ -11,3 +12,5 @@ pub mod Says
 pub mod General
 pub mod Lawful
 pub mod Items
+pub mod Stricter
+pub mod Unstopped

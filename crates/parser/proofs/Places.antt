@@ -9,8 +9,8 @@ use lib.ListN.{length, getD, drop, length-append, length-drop, List·getD-append
 use lib.Seq.{getD-append-seam, drop-append-le}
 use lib.Dec.{ltb, leb, eqb}
 use borrow.Author.Tests.{ltb-true, ltb-false, lt-ltb, le-ltb}
-use Rattle.parser.specs.Reading.{Found, no, got, stop, Reader, lit, seq, then, opt, lack, alt, orElse, verify, keep, map, mapFound, give, pick, and}
-use Rattle.parser.specs.Digits.{isDigit, digitsFrom, field, digits, number, runAt, ofRun, limit, run, nanoseconds, fraction}
+use Rattle.parser.specs.Reading.{Found, no, got, stop, Reader, lit, seq, then, opt, lack, alt, orElse, verify, keep, must, keepOrStop, map, mapFound, give, pick, and}
+use Rattle.parser.specs.Digits.{isDigit, digitsFrom, field, digits, number, runAt, ofRun, runUpTo, nanoseconds, fraction}
 use Rattle.parser.proofs.Fields.{digitsFrom-end}
 use Rattle.parser.proofs.Runs.{run-end, digits-short}
 
@@ -89,6 +89,19 @@ verify-bounded {A} f p hp s at le b n e = go (p .reads s at) refl e
     go (stop r) ef e = absurd (stop≢got e)
     go (got a m) ef e = kept a m ef (f a) e
 
+pub must-bounded : {A : Type 0} (f : A → Bool) (r : ℕ) (p : Reader A) → Bounded p → Bounded (must f r p)
+unfolding must
+must-bounded {A} f r p hp s at le b n e = go (p .reads s at) refl e
+  where
+    kept : (a : A) (m : ℕ) → p .reads s at ≡ got a m → (t : Bool) → pick t (got a m) (stop r) ≡ got b n → n ≤ length s
+    kept a m ef true e = hp s at le b n (ef ∙ e)
+    kept a m ef false e = absurd (stop≢got e)
+
+    go : (x : Found A) → p .reads s at ≡ x → keepOrStop f r x ≡ got b n → n ≤ length s
+    go no ef e = absurd (no≢got e)
+    go (stop q) ef e = absurd (stop≢got e)
+    go (got a m) ef e = kept a m ef (f a) e
+
 pub map-bounded : {A B : Type 0} (f : A → B) (p : Reader A) → Bounded p → Bounded (map f p)
 unfolding map
 map-bounded {A} f p hp s at le b n e = go (p .reads s at) refl e
@@ -119,17 +132,17 @@ field-bounded n lo hi s at le a m e = digits-bounded lo hi n 0 s at le a m e
 run-short : (s : List ℕ) (at : ℕ) → at ≤ length s → at + length (runAt s at) ≤ length s
 run-short s at le = omega (arith, digits-short (drop at s), length-drop at s)
 
-pub run-bounded : Bounded run
-unfolding run
-run-bounded s at le a n e = go (runAt s at) (run-short s at le) e
+pub run-bounded : (most r : ℕ) → Bounded (runUpTo most r)
+unfolding runUpTo
+run-bounded most r s at le a n e = go (runAt s at) (run-short s at le) e
   where
-    fits : (d : List ℕ) → at + length d ≤ length s → (t : Bool) → pick t (got (number d) (at + length d)) (stop 2) ≡ got a n → n ≤ length s
+    fits : (d : List ℕ) → at + length d ≤ length s → (t : Bool) → pick t (got (number d) (at + length d)) (stop r) ≡ got a n → n ≤ length s
     fits d h true e = omega (arith, got-place e)
     fits d h false e = absurd (stop≢got e)
 
-    go : (d : List ℕ) → at + length d ≤ length s → ofRun d no (pick (leb (number d) limit) (got (number d) (at + length d)) (stop 2)) ≡ got a n → n ≤ length s
+    go : (d : List ℕ) → at + length d ≤ length s → ofRun d no (pick (leb (number d) most) (got (number d) (at + length d)) (stop r)) ≡ got a n → n ≤ length s
     go [] h e = absurd (no≢got e)
-    go (b ∷ d) h e = fits (b ∷ d) h (leb (number (b ∷ d)) limit) e
+    go (b ∷ d) h e = fits (b ∷ d) h (leb (number (b ∷ d)) most) e
 
 pub fraction-bounded : Bounded fraction
 unfolding fraction
@@ -165,9 +178,9 @@ pub field-fails : (n lo hi : ℕ) → 0 < n → Fails (field n lo hi)
 unfolding field
 field-fails n lo hi pos s at h = digitsFrom-end lo hi n 0 s at pos (le-ltb at (length s) h)
 
-pub run-fails : Fails run
-unfolding run
-run-fails s at h = rw (run-end s at h)
+pub run-fails : (most r : ℕ) → Fails (runUpTo most r)
+unfolding runUpTo
+run-fails most r s at h = rw (run-end s at h)
 
 pub fraction-fails : Fails fraction
 unfolding fraction
@@ -184,6 +197,10 @@ alt-fails p q hp hq s at h = rw (hp s at h, hq s at h)
 pub map-fails : {A B : Type 0} (f : A → B) (p : Reader A) → Fails p → Fails (map f p)
 unfolding map
 map-fails f p hp s at h = rw (hp s at h)
+
+pub must-fails : {A : Type 0} (f : A → Bool) (r : ℕ) (p : Reader A) → Fails p → Fails (must f r p)
+unfolding must
+must-fails f r p hp s at h = rw (hp s at h)
 
 pub opt-skips : {A : Type 0} (F : Option A → Type 0) (p : Reader A) → F none → Fails p → Skips F (opt p)
 unfolding opt
@@ -251,6 +268,10 @@ pub verify-foreign : {A : Type 0} (X : ℕ → Type 0) (f : A → Bool) (p : Rea
 unfolding verify
 verify-foreign X f p hp s c y at hx le = rw (hp s c y at hx le)
 
+pub must-foreign : {A : Type 0} (X : ℕ → Type 0) (f : A → Bool) (r : ℕ) (p : Reader A) → Foreign X p → Foreign X (must f r p)
+unfolding must
+must-foreign X f r p hp s c y at hx le = rw (hp s c y at hx le)
+
 pub map-foreign : {A B : Type 0} (X : ℕ → Type 0) (f : A → B) (p : Reader A) → Foreign X p → Foreign X (map f p)
 unfolding map
 map-foreign X f p hp s c y at hx le = rw (hp s c y at hx le)
@@ -263,9 +284,9 @@ digits-foreign (b ∷ l) c y e = rw (digits-foreign l c y e)
 run-foreign-at : (s : List ℕ) (c : ℕ) (y : List ℕ) (at : ℕ) → isDigit c ≡ false → at ≤ length s → runAt (s ++ c ∷ y) at ≡ runAt s at
 run-foreign-at s c y at e le = rw (drop-append-le at s (c ∷ y) le) (digits-foreign (drop at s) c y e)
 
-pub run-foreign : (X : ℕ → Type 0) → ((c : ℕ) → X c → isDigit c ≡ false) → Foreign X run
-unfolding run
-run-foreign X k s c y at hx le = rw (run-foreign-at s c y at (k c hx) le)
+pub run-foreign : (most r : ℕ) (X : ℕ → Type 0) → ((c : ℕ) → X c → isDigit c ≡ false) → Foreign X (runUpTo most r)
+unfolding runUpTo
+run-foreign most r X k s c y at hx le = rw (run-foreign-at s c y at (k c hx) le)
 
 pub fraction-foreign : (X : ℕ → Type 0) → ((c : ℕ) → X c → isDigit c ≡ false) → Foreign X fraction
 unfolding fraction

@@ -5,7 +5,7 @@ use mathlib.Core.List.{List}
 use mathlib.Core.Bool.{Bool, true, false}
 use mathlib.Core.Option.{Option, none}
 use mathlib.Core.Path.{_≡_, refl, sym, ap, _∙_}
-use Rattle.parser.specs.Reading.{Found, no, got, stop, Reader, seq, opt, lack, alt, verify, keep, map, mapFound, or, Says, SaysOn}
+use Rattle.parser.specs.Reading.{Found, no, got, stop, Reader, seq, opt, lack, alt, verify, keep, must, keepOrStop, map, mapFound, or, Says, SaysOn}
 use Rattle.parser.proofs.Places.{Fails}
 use Rattle.parser.proofs.Hopeful.{AtEnd}
 
@@ -30,6 +30,10 @@ module _ {A : Type 0} (p : Reader A) (s : List ℕ) (at : ℕ) where
   pub says-verify : (t : A → Bool) (f : Found A) (m : Bool) → Says p s at f m → Says (verify t p) s at (keep t f) m
   unfolding verify
   says-verify t f m h = record { found = ap (keep t) (h .found); more = h .more }
+
+  pub says-must : (t : A → Bool) (r : ℕ) (f : Found A) (m : Bool) → Says p s at f m → Says (must t r p) s at (keepOrStop t r f) m
+  unfolding must
+  says-must t r f m h = record { found = ap (keepOrStop t r) (h .found); more = h .more }
 
   pub says-opt : (f : Found A) (m : Bool) → Says p s at f m → Says (opt p) s at (lack at f) m
   unfolding opt

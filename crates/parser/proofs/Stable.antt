@@ -8,8 +8,8 @@ use lib.Seq.{drop-append-le}
 use lib.Dec.{ltb, leb}
 use borrow.Author.Tests.{ltb-true, leb-true, leb-false, lt-ltb, lt-leb, not-false}
 use native.Mathlib.Omega.{arith}
-use Rattle.parser.specs.Reading.{Found, no, got, stop, Reader, lit, seq, after, opt, alt, failed, verify, map, give, pick, or, and}
-use Rattle.parser.specs.Digits.{isDigit, digitsFrom, digitsMore, field, digits, number, numberFrom, runAt, ofRun, atTheEnd, limit, run, fraction}
+use Rattle.parser.specs.Reading.{Found, no, got, stop, Reader, lit, seq, after, opt, alt, failed, verify, must, map, give, pick, or, and}
+use Rattle.parser.specs.Digits.{isDigit, digitsFrom, digitsMore, field, digits, number, numberFrom, runAt, ofRun, atTheEnd, runUpTo, fraction}
 use Rattle.parser.proofs.Runs.{run-end, digits-inside, digits-more, number-append, number-grows}
 use Rattle.parser.proofs.Fields.{true≢false, and-right, DigitAt, OtherAt, digitsFrom-suc, digitsMore-suc, digitsFrom-other, digitsMore-other, digitsFrom-end, digitsMore-end, out-of-reach, out-no, out-settled}
 
@@ -36,6 +36,10 @@ give-stable a s x at h = record { reads = refl; more = refl }
 pub verify-stable : {A : Type 0} (f : A → Bool) (p : Reader A) → Stable p → Stable (verify f p)
 unfolding verify
 verify-stable f p hp s x at h = record { reads = rw (hp s x at h .reads); more = hp s x at h .more }
+
+pub must-stable : {A : Type 0} (f : A → Bool) (r : ℕ) (p : Reader A) → Stable p → Stable (must f r p)
+unfolding must
+must-stable f r p hp s x at h = record { reads = rw (hp s x at h .reads); more = hp s x at h .more }
 
 pub map-stable : {A B : Type 0} (f : A → B) (p : Reader A) → Stable p → Stable (map f p)
 unfolding map
@@ -142,19 +146,19 @@ run-grows s x at = go (leb at (length s)) refl
         rw (drop-append-le at s x (leb-true at (length s) e), m .1, number-append (digits (drop at s)) (m .0) 0) (number-grows (m .0) (number (digits (drop at s))))
     go false e = rw (run-end s at (omega (arith, leb-false at (length s) e))) (number-grows (runAt (s ++ x) at) 0)
 
--- a run's number that is past the limit stays there
-pub run-stable : Stable run
-unfolding run numberFrom
-run-stable s x at h = go (atTheEnd s at) refl h
+-- a run's number that is past its limit stays there
+pub run-stable : (most r : ℕ) → Stable (runUpTo most r)
+unfolding runUpTo numberFrom
+run-stable most r s x at h = go (atTheEnd s at) refl h
   where
-    still : (d d′ : List ℕ) → number d ≤ number d′ → leb (number d) limit ≡ false → (leb (number d′) limit ≡ false) × (ofRun d′ no (pick (leb (number d′) limit) (got (number d′) (at + length d′)) (stop 2)) ≡ ofRun d no (pick (leb (number d) limit) (got (number d) (at + length d)) (stop 2)))
-    still [] d′ g big = absurd (true≢false big)
-    still (b ∷ d) [] g big = absurd (let h = leb-false (number (b ∷ d)) limit big in let z : number [] ≡ 0 = refl in omega arith)
-    still (b ∷ d) (b′ ∷ d′) g big = let big′ = lt-leb (number (b′ ∷ d′)) limit (omega (arith, leb-false (number (b ∷ d)) limit big)) in (big′, rw (big, big′))
+    still : (d d′ : List ℕ) → number d ≤ number d′ → leb (number d) most ≡ false → (leb (number d′) most ≡ false) × (ofRun d′ no (pick (leb (number d′) most) (got (number d′) (at + length d′)) (stop r)) ≡ ofRun d no (pick (leb (number d) most) (got (number d) (at + length d)) (stop r)))
+    still [] d′ g big = absurd (let h = leb-false 0 most big in omega arith)
+    still (b ∷ d) [] g big = absurd (let h = leb-false (number (b ∷ d)) most big in let z : number [] ≡ 0 = refl in omega arith)
+    still (b ∷ d) (b′ ∷ d′) g big = let big′ = lt-leb (number (b′ ∷ d′)) most (omega (arith, leb-false (number (b ∷ d)) most big)) in (big′, rw (big, big′))
 
-    past : leb (number (runAt s at)) limit ≡ false → Same run s x at
+    past : leb (number (runAt s at)) most ≡ false → Same (runUpTo most r) s x at
     past big = let e = still (runAt s at) (runAt (s ++ x) at) (run-grows s x at) big in record { reads = e .1; more = and-right (atTheEnd (s ++ x) at) (e .0) }
 
-    go : (t : Bool) → atTheEnd s at ≡ t → and t (leb (number (runAt s at)) limit) ≡ false → Same run s x at
+    go : (t : Bool) → atTheEnd s at ≡ t → and t (leb (number (runAt s at)) most) ≡ false → Same (runUpTo most r) s x at
     go true e h = past h
     go false e h = let k = run-stays s x at e in record { reads = rw (k .0); more = rw (k .1) }

@@ -4,6 +4,7 @@ use mathlib.Core.List.{List, _∷_, _++_}
 use mathlib.Core.Bool.{Bool, true, false}
 use mathlib.Core.Option.{some, none}
 use mathlib.Core.Path.{_≡_, refl, sym, ap, _∙_}
+use mathlib.Core.Logic.{_⊎_, inl, inr}
 use native.Mathlib.Omega.{arith}
 use lib.ListN.{length, length-append}
 use Rattle.types.specs.declared.Verdict.{Verdict}
@@ -12,7 +13,7 @@ use Rattle.parser.specs.Reading.{Found, no, got, stop, Reader, Says}
 use Rattle.parser.specs.Answer.{Told, recorded, refused, begun, Judged, Begins, verdictOf}
 use Rattle.parser.proofs.Stable.{Stable}
 use Rattle.parser.proofs.Places.{Bounded}
-use Rattle.parser.proofs.Hopeful.{Hopeful}
+use Rattle.parser.proofs.Hopeful.{Ends, AnyByte, Stops, HopefulOr}
 
 -- the count of an answer lies within the input
 count-within : {A : Type 0} (p : Reader A) → Bounded p → (s : List ℕ) → begun (p .reads s 0) .count ≤ length s
@@ -26,15 +27,24 @@ count-within {A} p bp s = go (p .reads s 0) refl
 pub settled : {A : Type 0} (k : ℕ) (p : Reader A) → Stable p → (s : List ℕ) → p .more s 0 ≡ false → Judged k p s Settled
 settled k p sp s h x = ap begun (sp s x 0 h .reads)
 
-pub open-within : {A : Type 0} (k : ℕ) (F : A → Type 0) (p : Reader A) → Bounded p → Hopeful k F p → (s : List ℕ) → p .more s 0 ≡ true → Judged k p s Open
-open-within {A} k F p bp hp s h =
-    let e = hp s 0 (omega arith) h in
-    let x = e .first ∷ e .rest in
-    let all : begun (p .reads (s ++ x) 0) .count ≡ length (s ++ x) = ap (λ (f : Found A). begun f .count) (e .reads) in
-    (x, (e .few, λ same. let c = ap (λ (t : Told A). t .count) same in omega (arith, all, count-within p bp s, length-append s x)))
+pub recorded-or-refused : {A : Type 0} {a : A} {m n r : ℕ} → recorded a m ≡ refused r n → ⊥
+recorded-or-refused {A} e = never (ap (λ (t : Told A). t .value) e)
+  where
+    never : {a : A} → some a ≡ none → ⊥
+    never e = let z : _≡_ {A = ℕ} 0 1 = cc in omega arith
+
+pub open-within : {W : Type 0} {A : Type 0} (k : ℕ) (F : A → Type 0) (p : Reader A) → Bounded p → HopefulOr W k F p → (s : List ℕ) → p .more s 0 ≡ true → Judged k p s Open
+open-within {W} {A} k F p bp hp s h = go (hp s 0 (omega arith) h)
+  where
+    go : Ends k AnyByte F p s 0 ⊎ (W × Stops k p s 0) → Judged k p s Open
+    go (inl e) =
+        let x = e .first ∷ e .rest in
+        let all : begun (p .reads (s ++ x) 0) .count ≡ length (s ++ x) = ap (λ (f : Found A). begun f .count) (e .reads) in
+        (x, (e .few, λ same. let c = ap (λ (t : Told A). t .count) same in omega (arith, all, count-within p bp s, length-append s x)))
+    go (inr (w, e)) = (e .more, (e .few, λ same. recorded-or-refused (rw (e .now, e .stops) at (sym same))))
 
 -- what code says of a reader is what it has to promise
-pub says-begins : {A : Type 0} (k : ℕ) (F : A → Type 0) (p : Reader A) → Stable p → Bounded p → Hopeful k F p → (s : List ℕ) (f : Found A) (m : Bool) → Says p s 0 f m → Begins k p s (begun f) (verdictOf m)
+pub says-begins : {W : Type 0} {A : Type 0} (k : ℕ) (F : A → Type 0) (p : Reader A) → Stable p → Bounded p → HopefulOr W k F p → (s : List ℕ) (f : Found A) (m : Bool) → Says p s 0 f m → Begins k p s (begun f) (verdictOf m)
 says-begins k F p sp bp hp s f true h = record { answer = ap begun (h .found); verdict = open-within k F p bp hp s (sym (h .more)) }
 says-begins k F p sp bp hp s f false h = record { answer = ap begun (h .found); verdict = settled k p sp s (sym (h .more)) }
 
@@ -57,9 +67,3 @@ recorded-once {A} e = (some-once (ap (λ (t : Told A). t .value) e), ap (λ (t :
 
 pub refused-once : {A : Type 0} (q r m n : ℕ) → refused {A = A} q m ≡ refused r n → (q ≡ r) × (m ≡ n)
 refused-once {A} q r m n e = (ap (λ (t : Told A). t .number) e, ap (λ (t : Told A). t .count) e)
-
-pub recorded-or-refused : {A : Type 0} {a : A} {m n r : ℕ} → recorded a m ≡ refused r n → ⊥
-recorded-or-refused {A} e = never (ap (λ (t : Told A). t .value) e)
-  where
-    never : {a : A} → some a ≡ none → ⊥
-    never e = let z : _≡_ {A = ℕ} 0 1 = cc in omega arith

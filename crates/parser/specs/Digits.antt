@@ -65,17 +65,20 @@ ofRun (b ∷ d) none some = some
 abbrev pub atTheEnd : List ℕ → ℕ → Bool
 atTheEnd s at = not (ltb (at + length (runAt s at)) (length s))
 
+-- a digit run, one digit or more, read as a number; above the greatest that it may have it ends all reading, by the number r
+unfoldable pub runUpTo : ℕ → ℕ → Reader ℕ
+runUpTo most r = record {
+  reads = λ s at.
+      ofRun (runAt s at) no (pick (leb (number (runAt s at)) most) (got (number (runAt s at)) (at + length (runAt s at))) (stop r));
+  more = λ s at. and (atTheEnd s at) (leb (number (runAt s at)) most);
+}
+
 -- "a digit run above 4,294,967,295" is refusal 2
 abbrev pub limit : ℕ
 limit = 4294967295
 
--- a digit run: one digit or more, read as a number
-unfoldable pub run : Reader ℕ
-run = record {
-  reads = λ s at.
-      ofRun (runAt s at) no (pick (leb (number (runAt s at)) limit) (got (number (runAt s at)) (at + length (runAt s at))) (stop 2));
-  more = λ s at. and (atTheEnd s at) (leb (number (runAt s at)) limit);
-}
+abbrev pub run : Reader ℕ
+run = runUpTo limit 2
 
 -- "the first nine digits, padded with zeros on the right; further digits are read and dropped"
 abbrev pub nanoseconds : List ℕ → ℕ

@@ -92,6 +92,15 @@ keep f (got a n) = pick (f a) (got a n) no
 unfoldable pub verify : {A : Type 0} → (A → Bool) → Reader A → Reader A
 verify f p = record { reads = λ s at. keep f (p .reads s at); more = p .more }
 
+-- a value that fails the test ends all reading, by its number
+abbrev pub keepOrStop : {A : Type 0} → (A → Bool) → ℕ → Found A → Found A
+keepOrStop f r no = no
+keepOrStop f r (stop q) = stop q
+keepOrStop f r (got a n) = pick (f a) (got a n) (stop r)
+
+unfoldable pub must : {A : Type 0} → (A → Bool) → ℕ → Reader A → Reader A
+must f r p = record { reads = λ s at. keepOrStop f r (p .reads s at); more = p .more }
+
 -- the value by a function
 abbrev pub mapFound : {A B : Type 0} → (A → B) → Found A → Found B
 mapFound f no = no

@@ -17,6 +17,24 @@ pub enum Refusal {
     LeftOver,
 }
 
+// The edition of ISO 8601 that a time is read by and written for: 2004 has an hour 24, the end of a day.
+pub enum Edition {
+    E2004,
+    E2019,
+}
+
+// What a caller chooses for times and date-times.
+pub struct Choices {
+    pub edition: Edition,
+}
+
+impl Choices {
+    // Document 01 as it stands.
+    pub const DOCUMENT_01: Choices = Choices {
+        edition: Edition::E2019,
+    };
+}
+
 // A calendar, week or ordinal date. A year before 0 is negative.
 pub enum Date {
     YMD { year: i32, month: u32, day: u32 },

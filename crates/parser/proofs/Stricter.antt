@@ -1,0 +1,128 @@
+-- A rule that reads what another does, or stops the reading, and is open only where the other is. Where it is open and has a value, some few
+-- bytes more are read to the last one, as the other's are, or stop the reading.
+use Prim.Native.Nat.{ℕ, zero, suc, _+_, _*_, _-_}
+use mathlib.Core.List.{List, [], _∷_, _++_}
+use mathlib.Core.Bool.{Bool, true, false}
+use mathlib.Core.Path.{_≡_, refl, sym, _∙_}
+use mathlib.Core.Logic.{_⊎_, inl, inr}
+use native.Mathlib.Omega.{arith}
+use lib.ListN.{length, take, replicate}
+use lib.Dec.{leb}
+use borrow.Author.Tests.{leb-true}
+use Rattle.parser.specs.Reading.{Found, no, got, stop, Reader, seq, after, opt, lack, must, keepOrStop, map, mapFound, or, pick}
+use Rattle.parser.specs.Digits.{number, numberFrom, runAt, ofRun, runUpTo, nanoseconds, fraction}
+use Rattle.parser.proofs.Fields.{true≢false, and-first}
+use Rattle.parser.proofs.Runs.{number-grows}
+use Rattle.parser.proofs.Places.{stop≢got}
+use Rattle.parser.proofs.Hopeful.{Ends, AnyByte, Stops, Hopeful, HopefulOr}
+
+-- the same is found, or the reading is stopped
+abbrev SameOrStop : {A : Type 0} → Found A → Found A → Type 0
+SameOrStop f g = (f ≡ g) ⊎ ((r : ℕ) × (f ≡ stop r))
+
+pub record StricterAt {A : Type 0} (p q : Reader A) (s : List ℕ) (at : ℕ) : Type 0 where
+  pub reads : SameOrStop (p .reads s at) (q .reads s at)
+  pub more : p .more s at ≡ true → q .more s at ≡ true
+
+abbrev pub Stricter : {A : Type 0} → Reader A → Reader A → Type 0
+Stricter p q = (s : List ℕ) (at : ℕ) → StricterAt p q s at
+
+pub same-stricter : {A : Type 0} {p : Reader A} → Stricter p p
+same-stricter s at = record { reads = inl refl; more = λ h. h }
+
+pub must-stricter : {A : Type 0} (f : A → Bool) (r : ℕ) (p : Reader A) → Stricter (must f r p) p
+unfolding must
+must-stricter {A} f r p s at = record { reads = go (p .reads s at); more = λ h. h }
+  where
+    kept : (a : A) (n : ℕ) (t : Bool) → SameOrStop (pick t (got a n) (stop r)) (got a n)
+    kept a n true = inl refl
+    kept a n false = inr (r, refl)
+
+    go : (x : Found A) → SameOrStop (keepOrStop f r x) x
+    go no = inl refl
+    go (stop q) = inl refl
+    go (got a n) = kept a n (f a)
+
+pub map-stricter : {A B : Type 0} (f : A → B) {p q : Reader A} → Stricter p q → Stricter (map f p) (map f q)
+unfolding map
+map-stricter {A} {B} f {p} {q} h s at = record { reads = go (h s at .reads); more = h s at .more }
+  where
+    go : SameOrStop (p .reads s at) (q .reads s at) → SameOrStop (mapFound f (p .reads s at)) (mapFound f (q .reads s at))
+    go (inl e) = inl (rw e)
+    go (inr (r, e)) = inr (r, rw e)
+
+pub opt-stricter : {A : Type 0} {p q : Reader A} → Stricter p q → Stricter (opt p) (opt q)
+unfolding opt
+opt-stricter {A} {p} {q} h s at = record { reads = go (h s at .reads); more = h s at .more }
+  where
+    go : SameOrStop (p .reads s at) (q .reads s at) → SameOrStop (lack at (p .reads s at)) (lack at (q .reads s at))
+    go (inl e) = inl (rw e)
+    go (inr (r, e)) = inr (r, rw e)
+
+pub seq-stricter : {A B : Type 0} {p q : Reader A} {f g : A → Reader B} → Stricter p q → ((a : A) → Stricter (f a) (g a)) → Stricter (seq p f) (seq q g)
+unfolding seq
+seq-stricter {A} {B} {p} {q} {f} {g} h k s at = record { reads = reads (q .reads s at) refl (h s at .reads); more = more (p .more s at) refl (p .reads s at) refl (h s at .reads) }
+  where
+    reads : (x : Found A) → q .reads s at ≡ x → SameOrStop (p .reads s at) (q .reads s at) → SameOrStop (seq p f .reads s at) (seq q g .reads s at)
+    reads x ex (inr (r, e)) = inr (r, rw e)
+    reads no ex (inl e) = inl (rw (e, ex))
+    reads (stop r) ex (inl e) = inl (rw (e, ex))
+    reads (got a n) ex (inl e) = go (k a s n .reads)
+      where
+        go : SameOrStop (f a .reads s n) (g a .reads s n) → SameOrStop (seq p f .reads s at) (seq q g .reads s at)
+        go (inl i) = inl (rw (e, ex, i))
+        go (inr (r, i)) = inr (r, rw (e, ex, i))
+
+    or-true : (m : Bool) → or m true ≡ true
+    or-true true = refl
+    or-true false = refl
+
+    more : (m : Bool) → p .more s at ≡ m → (x : Found A) → p .reads s at ≡ x → SameOrStop (p .reads s at) (q .reads s at) → or m (after x (λ a n. f a .more s n)) ≡ true → seq q g .more s at ≡ true
+    more true em x ex e o = rw (h s at .more em)
+    more false em no ex e o = absurd (true≢false (sym o))
+    more false em (stop r) ex e o = absurd (true≢false (sym o))
+    more false em (got a n) ex (inl e) o = rw (← e, ex, k a s n .more o) (or-true (q .more s at))
+    more false em (got a n) ex (inr (r, e)) o = absurd (stop≢got (sym e ∙ ex))
+
+-- ---- digits that are all 0 are the fraction 0
+
+no-number : (n k : ℕ) → numberFrom 0 (take n (replicate k 48)) ≡ 0
+unfolding numberFrom
+no-number zero k = refl
+no-number (suc n) zero = refl
+no-number (suc n) (suc k) = no-number n k
+
+zeros-cut : (d : List ℕ) (n : ℕ) → number d ≡ 0 → number (take n (d ++ replicate 9 48)) ≡ 0
+unfolding numberFrom
+zeros-cut [] n e = no-number n 9
+zeros-cut (b ∷ d) zero e = refl
+zeros-cut (b ∷ d) (suc n) e =
+    let first : b - 48 ≡ 0 = omega (arith, number-grows d (0 * 10 + (b - 48)), e) in
+    rw first (zeros-cut d n (rw first at e))
+
+pub zeros-stricter : (r : ℕ) → Stricter (runUpTo 0 r) fraction
+unfolding runUpTo fraction
+zeros-stricter r s at = record { reads = go (runAt s at); more = λ h. and-first _ _ h }
+  where
+    some : (d : List ℕ) (t : Bool) → leb (number d) 0 ≡ t → SameOrStop (pick t (got (number d) (at + length d)) (stop r)) (got (nanoseconds d) (at + length d))
+    some d true e = let z : number d ≡ 0 = omega (arith, leb-true (number d) 0 e) in inl (rw (z, zeros-cut d 9 z))
+    some d false e = inr (r, refl)
+
+    go : (d : List ℕ) → SameOrStop (ofRun d no (pick (leb (number d) 0) (got (number d) (at + length d)) (stop r))) (ofRun d no (got (nanoseconds d) (at + length d)))
+    go [] = inl refl
+    go (b ∷ d) = some (b ∷ d) (leb (number (b ∷ d)) 0) refl
+
+-- ---- hope
+
+abbrev pub Valued : {A : Type 0} → Reader A → List ℕ → ℕ → Type 0
+Valued {A} p s at = (a : A) × ((n : ℕ) × (p .reads s at ≡ got a n))
+
+pub stricter-hopeful : {W : Type 0} {A : Type 0} {k : ℕ} {F : A → Type 0} (p q : Reader A) → W → Stricter p q → ((s : List ℕ) (at : ℕ) → p .more s at ≡ true → Valued p s at) → Hopeful k F q → HopefulOr W k F p
+stricter-hopeful {W} {A} {k} {F} p q w st now hq s at le h = go (hq s at le (st s at .more h)) (now s at h)
+  where
+    go : Ends k AnyByte F q s at → Valued p s at → Ends k AnyByte F p s at ⊎ (W × Stops k p s at)
+    go e v = by (st (s ++ e .first ∷ e .rest) at .reads)
+      where
+        by : SameOrStop (p .reads (s ++ e .first ∷ e .rest) at) (q .reads (s ++ e .first ∷ e .rest) at) → Ends k AnyByte F p s at ⊎ (W × Stops k p s at)
+        by (inl i) = inl record { first = e .first; rest = e .rest; value = e .value; begins = tt; few = e .few; fact = e .fact; reads = i ∙ e .reads }
+        by (inr (r, i)) = inr (w, record { more = e .first ∷ e .rest; few = e .few; value = v .0; place = v .1 .0; number = r; now = v .1 .1; stops = i })
