@@ -8,9 +8,8 @@ use Rattle.types.specs.declared.Duration.{Duration}
 use Rattle.parser.specs.Reading.{Found, Reader, lit, seq, opt, verify, give, or, Says}
 use Rattle.parser.specs.Answer.{begun, Begins, verdictOf}
 use Rattle.parser.specs.Digits.{isDigit}
-use Rattle.parser.proofs.Stable.{Stable}
 use Rattle.parser.proofs.Places.{Bounded, Fails}
-use Rattle.parser.proofs.Hopeful.{Anything, Hopeful}
+use Rattle.parser.proofs.Hopeful.{Anything}
 use Rattle.parser.proofs.Alike.{verify-behind}
 use Rattle.parser.proofs.Lawful.{member, byte, lawful-begins, TailIf, give-tail, seq-tail, Item, map-item, opt-tail-if, required-item, alike-item}
 use Rattle.parser.proofs.Items.{lit-mark, after-item, preceded-item, run-item}
@@ -108,16 +107,10 @@ pub duration-item : Item bytes (byte 80) 3 3 Anything duration
 unfolding duration
 duration-item = map-item _ (alike-item (verify-behind somePart (lit 80) (λ _. partsRule)) (after-item (lit-mark 80 refl) (λ _. parts-item)))
 
-pub duration-stable : Stable duration
-duration-stable = duration-item .lawful .stable
-
 pub duration-bounded : Bounded duration
-duration-bounded = duration-item .lawful .bounded
+duration-bounded = duration-item .lawful .steady .bounded
 
--- an open duration has a continuation of at most three bytes that changes the answer
-pub duration-hopeful : Hopeful 3 Anything duration
-duration-hopeful = duration-item .lawful .hopeful
-
--- so what code says of the rule at the beginning is what a reader has to promise
+-- what code says of the rule at the beginning is what a reader has to promise: an open duration has a continuation of at most three bytes
+-- that changes the answer
 pub duration-begins : (s : List ℕ) (f : Found Duration) (m : Bool) → Says duration s 0 f m → Begins 3 duration s (begun f) (verdictOf m)
 duration-begins = lawful-begins (duration-item .lawful)

@@ -7,16 +7,18 @@ use native.Mathlib.Omega.{arith}
 use lib.ListN.{length, getD}
 use lib.Dec.{ltb, eqb}
 use borrow.Author.Tests.{eqb-true, ne-eqb}
+use Rattle.types.specs.declared.Offset.{Offset}
 use Rattle.types.specs.Sums.{zeroOffset}
 use Rattle.parser.specs.Reading.{Found, no, got, stop, Says, lit, seq, after, alt, map, or, and}
+use Rattle.parser.specs.Answer.{begun, Begins, verdictOf}
 use Rattle.parser.specs.Fields.{hour, signed}
 use Rattle.parser.proofs.Fields.{true≢false, and-right}
-use Rattle.parser.proofs.Stable.{Stable}
 use Rattle.parser.proofs.Places.{no≢got, Bounded, lit-fails}
-use Rattle.parser.proofs.Hopeful.{Anything, Hopeful}
+use Rattle.parser.proofs.Hopeful.{Anything}
 use Rattle.parser.proofs.Leaves.{From, above-zero, signed-at-end}
 use Rattle.parser.proofs.Says.{says-alt-no, says-map}
-use Rattle.parser.proofs.Lawful.{byte, TailIf, tail-where, map-tail, Item, map-item, alt-item, tested-tail, seq-item}
+use Rattle.parser.proofs.Lawful.{byte, lawful-begins, TailIf, tail-where, map-tail, Item, map-item, alt-item, tested-tail, seq-item}
+use Rattle.parser.proofs.Unstopped.{Unstopped, lit-unstopped, field-unstopped, seq-unstopped, opt-unstopped, alt-unstopped, verify-unstopped, map-unstopped}
 use Rattle.parser.proofs.Items.{lit-mark, signed-mark, after-item, preceded-item, field-item-in}
 use Rattle.offset.specs.Rules.{allowed, offsetMinute, offsetHour, offsetZulu, offset}
 
@@ -91,12 +93,22 @@ pub offset-item : Item bytes (byte 45) 3 3 Anything offset
 unfolding offset offsetZulu
 offset-item = alt-item hour-item (map-item _ (lit-mark 90 refl .item))
 
-pub offset-stable : Stable offset
-offset-stable = offset-item .lawful .stable
-
 pub offset-bounded : Bounded offset
-offset-bounded = offset-item .lawful .bounded
+offset-bounded = offset-item .lawful .steady .bounded
 
--- an open offset has a continuation of at most three bytes that changes the answer
-pub offset-hopeful : Hopeful 3 Anything offset
-offset-hopeful = offset-item .lawful .hopeful
+-- what code says of the rule at the beginning is what a reader has to promise: an open offset has a continuation of at most three bytes that
+-- changes the answer
+pub offset-begins : (s : List ℕ) (f : Found Offset) (m : Bool) → Says offset s 0 f m → Begins 3 offset s (begun f) (verdictOf m)
+offset-begins = lawful-begins (offset-item .lawful)
+
+-- no offset stops the reading
+pub offset-unstopped : Unstopped offset
+unfolding offset offsetHour offsetMinute offsetZulu
+offset-unstopped =
+    alt-unstopped
+    (seq-unstopped signed-unstopped (λ minus.
+    seq-unstopped (field-unstopped 2 0 23) (λ h. map-unstopped _ (verify-unstopped _ (opt-unstopped (seq-unstopped (opt-unstopped (lit-unstopped 58)) (λ _. field-unstopped 2 0 59)))))))
+    (map-unstopped _ (lit-unstopped 90))
+  where
+    signed-unstopped : Unstopped signed
+    signed-unstopped = alt-unstopped (map-unstopped _ (lit-unstopped 45)) (map-unstopped _ (lit-unstopped 43))

@@ -5,11 +5,15 @@ use Rattle.parser.specs.Reading.{Found, no, got, stop}
 use Rattle.runs.specs.declared.Run.{Run}
 use Rattle.runs.specs.declared.Run.the-variants as run
 
+-- a number past what it may be ends all reading, by the number r
+abbrev pub foundUpTo : ℕ → Run → Found ℕ
+foundUpTo r (run.Got v n m) = got v n
+foundUpTo r run.TooBig = stop r
+foundUpTo r run.Wrong = no
+foundUpTo r run.Cut = no
+
 abbrev pub runFound : Run → Found ℕ
-runFound (run.Got v n m) = got v n
-runFound run.TooBig = stop 2
-runFound run.Wrong = no
-runFound run.Cut = no
+runFound = foundUpTo 2
 
 abbrev pub runMore : Run → Bool
 runMore (run.Got v n m) = m

@@ -5,8 +5,8 @@ ghost use Prim.Native.Nat.{_+_, _-_, _^_, _<_};
 ghost use lib.Dec.{ltb};
 ghost use lib.ListN.{length};
 ghost use Rattle.parser.specs.Reading.{Says};
-ghost use Rattle.parser.specs.Digits.{run, fraction, runAt};
-ghost use Rattle.runs.specs.Read.{foundRun, runFound, runMore};
+ghost use Rattle.parser.specs.Digits.{run, runUpTo, fraction, runAt};
+ghost use Rattle.runs.specs.Read.{foundRun, foundUpTo, runFound, runMore};
 
 // What a digit run finds. `more`: it reaches the end of the input, where a digit could still be added.
 pub enum Run {
@@ -51,6 +51,27 @@ pub fn take_digits(s: &[u8], at: usize) -> Run
         next = next + 1;
     }
     found_run(at, next, value, true)
+}
+
+// A run of zeros, of any length: one other digit is too big.
+pub fn take_zeros(s: &[u8], at: usize) -> Run
+    ensures { λ r. ⌜ Says (runUpTo 0 1) (now (s .entry)) at (foundUpTo 1 r) (runMore r) ⌝ }
+{
+    let mut next = at;
+    while next < s.len() {
+        let b = s[next];
+        if b < 48 {
+            return found_run(at, next, 0, false);
+        }
+        if 57 < b {
+            return found_run(at, next, 0, false);
+        }
+        if 48 < b {
+            return Run::TooBig;
+        }
+        next = next + 1;
+    }
+    found_run(at, next, 0, true)
 }
 
 // The place after the digits that stand from `at` on.

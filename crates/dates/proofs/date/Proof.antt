@@ -1,9 +1,6 @@
 -- What the code says of the rule is the promise, by the laws of the kind.
 use mathlib.Core.Bool.{true, false}
-use Rattle.parser.proofs.Hopeful.{Anything}
-use Rattle.parser.proofs.Verdict.{says-begins}
-use Rattle.date.specs.Rules.{date}
-use Rattle.date.proofs.Laws.{date-stable, date-bounded, date-hopeful}
+use Rattle.date.proofs.Laws.{date-begins}
 use borrow.Author.Needs.{needs}
 use Rattle.dates.proofs.date.Statement.{statement}
 use Rattle.dates.proofs.date.Tie as tie
@@ -11,17 +8,17 @@ use Rattle.dates.proofs.date.Tie as tie
 returns : tie.Need-returns
 returns c =
     let a = c .before .before .before .before .before .before .args in
-    rw (c .verdict-on .ensures) (says-begins 7 Anything date date-stable date-bounded date-hopeful (a .s .now) _ _ (rw (c .before .before .found .given .1) at (c .before .before .before .before .date-begun .ensures)))
+    rw (c .verdict-on .ensures) (date-begins (a .s .now) _ _ (rw (c .before .before .found .given .1) at (c .before .before .before .before .date-begun .ensures)))
 
 returns-2 : tie.Need-returns-2
 returns-2 c =
     let a = c .before .before .before .before .args in
-    says-begins 7 Anything date date-stable date-bounded date-hopeful (a .s .now) _ false (rw (c .enum-told .given .1) at (c .before .before .date-begun .ensures))
+    date-begins (a .s .now) _ false (rw (c .enum-told .given .1) at (c .before .before .date-begun .ensures))
 
 returns-3 : tie.Need-returns-3
 returns-3 c =
     let a = c .before .before .before .before .args in
-    says-begins 7 Anything date date-stable date-bounded date-hopeful (a .s .now) _ true (rw (c .enum-told2 .given .1) at (c .before .before .date-begun .ensures))
+    date-begins (a .s .now) _ true (rw (c .enum-told2 .given .1) at (c .before .before .date-begun .ensures))
 
 pub date-spec : {M : Type 1} → statement M
 date-spec =

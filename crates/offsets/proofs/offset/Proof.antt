@@ -1,9 +1,6 @@
 -- What the code says of the rule is the promise, by the laws of the kind.
 use mathlib.Core.Bool.{true, false}
-use Rattle.parser.proofs.Hopeful.{Anything}
-use Rattle.parser.proofs.Verdict.{says-begins}
-use Rattle.offset.specs.Rules.{offset}
-use Rattle.offset.proofs.Laws.{offset-stable, offset-bounded, offset-hopeful}
+use Rattle.offset.proofs.Laws.{offset-begins}
 use borrow.Author.Needs.{needs}
 use Rattle.offsets.proofs.offset.Statement.{statement}
 use Rattle.offsets.proofs.offset.Tie as tie
@@ -11,17 +8,17 @@ use Rattle.offsets.proofs.offset.Tie as tie
 returns : tie.Need-returns
 returns c =
     let a = c .before .before .before .before .before .before .args in
-    rw (c .verdict-on .ensures) (says-begins 3 Anything offset offset-stable offset-bounded offset-hopeful (a .s .now) _ _ (rw (c .before .before .found .given .1) at (c .before .before .before .before .offset-begun .ensures)))
+    rw (c .verdict-on .ensures) (offset-begins (a .s .now) _ _ (rw (c .before .before .found .given .1) at (c .before .before .before .before .offset-begun .ensures)))
 
 returns-2 : tie.Need-returns-2
 returns-2 c =
     let a = c .before .before .before .before .before .args in
-    rw (c .no-form .ensures .0, c .no-form .ensures .1) (says-begins 3 Anything offset offset-stable offset-bounded offset-hopeful (a .s .now) _ false (rw (c .before .enum-told .given .1) at (c .before .before .before .offset-begun .ensures)))
+    rw (c .no-form .ensures .0, c .no-form .ensures .1) (offset-begins (a .s .now) _ false (rw (c .before .enum-told .given .1) at (c .before .before .before .offset-begun .ensures)))
 
 returns-3 : tie.Need-returns-3
 returns-3 c =
     let a = c .before .before .before .before .before .args in
-    rw (c .no-form2 .ensures .0, c .no-form2 .ensures .1) (says-begins 3 Anything offset offset-stable offset-bounded offset-hopeful (a .s .now) _ true (rw (c .before .enum-told2 .given .1) at (c .before .before .before .offset-begun .ensures)))
+    rw (c .no-form2 .ensures .0, c .no-form2 .ensures .1) (offset-begins (a .s .now) _ true (rw (c .before .enum-told2 .given .1) at (c .before .before .before .offset-begun .ensures)))
 
 pub offset-spec : {M : Type 1} → statement M
 offset-spec =

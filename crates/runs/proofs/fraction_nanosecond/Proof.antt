@@ -62,7 +62,7 @@ module _ (s : List ℕ) (at value next place : ℕ) (g : Nine s at value next pl
 
   ended : (more : Bool) → runAt s next ≡ [] → atTheEnd s at ≡ more → Says fraction s at (runFound (foundRun (ltb at next) more value next)) (runMore (foundRun (ltb at next) more value next))
   unfolding fraction
-  ended more e em = found-run-says fraction s at (runAt s at) value next more (rw (all-read e)) em (at-its-end e)
+  ended more e em = found-run-says 2 fraction s at (runAt s at) value next more (rw (all-read e)) em (at-its-end e)
 
   -- all nine digits are there, and the rest of the run is dropped
   nine-all : (end : ℕ) → place ≡ 9 → end ≡ next + length (runAt s next) → Says fraction s at (got value end) (leb (length s) end)
@@ -72,7 +72,7 @@ module _ (s : List ℕ) (at value next place : ℕ) (g : Nine s at value next pl
       let n : value + 0 ≡ nanoseconds (runAt s at) = rw z at (g .number) in
       let ev : value ≡ nanoseconds (runAt s at) = omega (arith, n) in
       let here : end ≡ at + length (runAt s at) = omega (arith, g .ends) in
-      let x = found-run-says fraction s at (runAt s at) value end (leb (length s) end) (rw ev) (rw (← here) (sym (leb-not-ltb (length s) end))) here in
+      let x = found-run-says 2 fraction s at (runAt s at) value end (leb (length s) end) (rw ev) (rw (← here) (sym (leb-not-ltb (length s) end))) here in
       rw (lt-ltb at end (omega (arith, g .here))) at x
 
 abbrev Inv-loop : tie.InvT-loop

@@ -1,45 +1,15 @@
 -- The loop goes along the run. A number past the limit ends it early, since no digit brings it back.
-use Prim.Native.Nat.{ℕ, _+_, _*_, _-_, _<_}
-use mathlib.Core.List.{List, [], _∷_}
-use mathlib.Core.Bool.{Bool, true, false}
-use mathlib.Core.Path.{_≡_, refl, sym, ap, _∙_}
+use Prim.Native.Nat.{_-_, _<_}
+use mathlib.Core.Bool.{true, false}
+use mathlib.Core.Path.{ap}
 use native.Mathlib.Omega.{arith}
-use lib.ListN.{length, getD}
-use lib.Dec.{ltb, leb}
+use lib.ListN.{length}
 use borrow.Author.Needs.{needs}
-use borrow.Author.Tests.{le-leb, lt-leb}
-use Rattle.parser.specs.Reading.{Says, no, got, stop, and, pick}
-use Rattle.parser.specs.Digits.{run, runAt, number, numberFrom, ofRun, atTheEnd}
-use Rattle.runs.specs.Read.{foundRun, runFound, runMore}
-use Rattle.parser.proofs.Fields.{DigitAt, digit-at, below-digits, above-digits, and-right}
-use Rattle.parser.proofs.Runs.{run-step, run-other, run-end, number-grows, end-is, end-is-not}
-use Rattle.runs.proofs.Along.{Along, along-start, along-step, found-run-says}
+use Rattle.parser.proofs.Fields.{digit-at, below-digits, above-digits}
+use Rattle.parser.proofs.Runs.{run-other, run-end, end-is, end-is-not}
+use Rattle.runs.proofs.Along.{Along, along-start, along-step, ended, past}
 use Rattle.runs.proofs.take_digits.Statement.{statement}
 use Rattle.runs.proofs.take_digits.Tie as tie
-
--- the run has ended at `next`, and its number is within the limit
-ended : (s : List ℕ) (at value next : ℕ) (more : Bool) → Along s at value next → value < 4294967296 → runAt s next ≡ [] → atTheEnd s at ≡ more → Says run s at (runFound (foundRun (ltb at next) more value next)) (runMore (foundRun (ltb at next) more value next))
-unfolding run numberFrom
-ended s at value next more g small e em =
-    let n : number (runAt s at) ≡ value = sym (g .number) ∙ rw e in
-    let fits : leb (number (runAt s at)) 4294967295 ≡ true = rw n (le-leb value 4294967295 (omega arith)) in
-    found-run-says run s at (runAt s at) value next more (rw (fits, n)) (rw (em, fits) (and-true more)) (omega (arith, g .ends, ap length e))
-  where
-    and-true : (t : Bool) → and t true ≡ t
-    and-true true = refl
-    and-true false = refl
-
--- the run's number is past the limit, whatever digits follow
-past : (s : List ℕ) (at value next : ℕ) → Along s at value next → DigitAt s next → 4294967295 < value * 10 + (getD s next 0 - 48) → Says run s at (stop 2) false
-unfolding run
-past s at value next g d h =
-    let g′ = along-step s at value next g d in
-    let big : leb (number (runAt s at)) 4294967295 ≡ false = lt-leb (number (runAt s at)) 4294967295 (omega (arith, g′ .number, number-grows (runAt s (next + 1)) (value * 10 + (getD s next 0 - 48)))) in
-    record { found = some-digit (runAt s at) (omega (arith, g .ends, g .ahead, ap length (run-step s next d))) big; more = sym (and-right (atTheEnd s at) big) }
-  where
-    some-digit : (x : List ℕ) → 0 < length x → leb (number x) 4294967295 ≡ false → stop 2 ≡ ofRun x no (pick (leb (number x) 4294967295) (got (number x) (at + length x)) (stop 2))
-    some-digit [] h e = absurd (omega arith)
-    some-digit (b ∷ x) h e = rw e
 
 abbrev Inv-loop : tie.InvT-loop
 Inv-loop s at value₀ next₀ value next = Along s at value next × (value < 4294967296)
@@ -61,7 +31,7 @@ returns c =
     let a = c .before .before .before .before .before .before .args in
     let l = c .before .before .before .before .loop in
     let e = run-other (a .s .now) (l .next) (below-digits (a .s .now) (l .next) (omega arith) (omega arith)) in
-    rw (c .found-run .ensures) (ended (a .s .now) (a .at) (l .value) (l .next) false (l .inv .0) (l .inv .1) e (end-is-not (a .s .now) (a .at) (l .next) (omega (arith, l .inv .0 .ends, ap length e)) (omega arith)))
+    rw (c .found-run .ensures) (ended 4294967295 2 (a .s .now) (a .at) (l .value) (l .next) (l .inv .0) false (omega (arith, l .inv .1)) e (end-is-not (a .s .now) (a .at) (l .next) (omega (arith, l .inv .0 .ends, ap length e)) (omega arith)))
 
 found-run-requires-2 : tie.Need-found-run-requires-2 Inv-loop μ-loop
 found-run-requires-2 c κs = search needs
@@ -71,7 +41,7 @@ returns-2 c =
     let a = c .before .before .before .before .before .before .before .args in
     let l = c .before .before .before .before .before .loop in
     let e = run-other (a .s .now) (l .next) (above-digits (a .s .now) (l .next) (omega arith) (omega arith)) in
-    rw (c .found-run2 .ensures) (ended (a .s .now) (a .at) (l .value) (l .next) false (l .inv .0) (l .inv .1) e (end-is-not (a .s .now) (a .at) (l .next) (omega (arith, l .inv .0 .ends, ap length e)) (omega arith)))
+    rw (c .found-run2 .ensures) (ended 4294967295 2 (a .s .now) (a .at) (l .value) (l .next) (l .inv .0) false (omega (arith, l .inv .1)) e (end-is-not (a .s .now) (a .at) (l .next) (omega (arith, l .inv .0 .ends, ap length e)) (omega arith)))
 
 cast-wide : tie.Need-cast-wide Inv-loop μ-loop
 cast-wide c = omega arith
@@ -89,7 +59,7 @@ returns-3 : tie.Need-returns-3 Inv-loop μ-loop
 returns-3 c =
     let a = c .before .before .before .before .before .before .before .args in
     let l = c .before .before .before .before .before .loop in
-    past (a .s .now) (a .at) (l .value) (l .next) (l .inv .0) (digit-at (a .s .now) (l .next) (omega arith) (omega arith) (omega arith)) (omega arith)
+    past 4294967295 2 (a .s .now) (a .at) (l .value) (l .next) (l .inv .0) (digit-at (a .s .now) (l .next) (omega arith) (omega arith) (omega arith)) (omega arith)
 
 cast-value : tie.Need-cast-value Inv-loop μ-loop
 cast-value c = omega arith
@@ -114,7 +84,7 @@ returns-4 c =
     let a = c .before .before .before .before .args in
     let l = c .before .before .loop in
     let e = run-end (a .s .now) (l .next) (omega arith) in
-    rw (c .found-run3 .ensures) (ended (a .s .now) (a .at) (l .value) (l .next) true (l .inv .0) (l .inv .1) e (end-is (a .s .now) (a .at) (l .next) (omega (arith, l .inv .0 .ends, ap length e)) (omega arith)))
+    rw (c .found-run3 .ensures) (ended 4294967295 2 (a .s .now) (a .at) (l .value) (l .next) (l .inv .0) true (omega (arith, l .inv .1)) e (end-is (a .s .now) (a .at) (l .next) (omega (arith, l .inv .0 .ends, ap length e)) (omega arith)))
 
 pub take-digits-spec : {M : Type 1} → statement M
 take-digits-spec =
