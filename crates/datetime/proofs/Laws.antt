@@ -1,15 +1,19 @@
 -- What holds of every date-time: a date's laws and a time's, and between them a `T`, which no date takes.
 use Prim.Native.Nat.{ℕ}
 use mathlib.Core.List.{List, [], _∷_}
+use mathlib.Core.Bool.{Bool}
 use mathlib.Core.Path.{refl}
+use Rattle.types.specs.declared.Choices.{Choices}
 use Rattle.types.specs.declared.Date.{Date}
+use Rattle.types.specs.declared.DateTime.{DateTime}
+use Rattle.parser.specs.Reading.{Found, Says}
+use Rattle.parser.specs.Answer.{begun, Begins, verdictOf}
 use Rattle.parser.specs.Digits.{isDigit}
-use Rattle.parser.proofs.Stable.{Stable}
 use Rattle.parser.proofs.Places.{Bounded}
-use Rattle.parser.proofs.Hopeful.{Anything, Hopeful}
-use Rattle.parser.proofs.Lawful.{byte, Item, widen, map-item, outside-keeps, then-item}
+use Rattle.parser.proofs.Hopeful.{Anything}
+use Rattle.parser.proofs.Lawful.{byte, lawful-begins, ItemOr, widen, map-item, outside-keeps, then-item}
 use Rattle.parser.proofs.Items.{lit-mark, after-item}
-use Rattle.time.proofs.Laws.{base-time-item}
+use Rattle.time.proofs.Laws.{MayStop, base-time-item}
 use Rattle.date.proofs.Laws.{date-item}
 use Rattle.datetime.specs.Rules.{timeOf, afterDate, dateTime}
 
@@ -17,21 +21,19 @@ use Rattle.datetime.specs.Rules.{timeOf, afterDate, dateTime}
 abbrev pub bytes : List ℕ
 bytes = 43 ∷ 45 ∷ 87 ∷ 84 ∷ 58 ∷ 44 ∷ 46 ∷ 90 ∷ []
 
-after-date-item : (d : Date) → Item bytes (byte 84) 3 3 Anything (afterDate d)
+after-date-item : (c : Choices) (d : Date) → ItemOr (MayStop (c .edition)) bytes (byte 84) 3 3 Anything (afterDate c d)
 unfolding afterDate timeOf
-after-date-item d = after-item (lit-mark 84 refl) (λ _. map-item _ (widen refl base-time-item))
+after-date-item c d = after-item (lit-mark 84 refl) (λ _. map-item _ (widen refl (base-time-item c)))
 
 -- seven bytes complete the date, and `T` and an hour the date-time
-pub datetime-item : Item bytes isDigit 10 10 Anything dateTime
+pub datetime-item : (c : Choices) → ItemOr (MayStop (c .edition)) bytes isDigit 10 10 Anything (dateTime c)
 unfolding dateTime
-datetime-item = then-item (outside-keeps 84 refl (date-item .lawful)) (widen refl date-item) after-date-item
+datetime-item c = then-item (outside-keeps 84 refl (date-item .lawful)) (widen refl date-item) (after-date-item c)
 
-pub datetime-stable : Stable dateTime
-datetime-stable = datetime-item .lawful .stable
+pub datetime-bounded : (c : Choices) → Bounded (dateTime c)
+datetime-bounded c = datetime-item c .lawful .steady .bounded
 
-pub datetime-bounded : Bounded dateTime
-datetime-bounded = datetime-item .lawful .bounded
-
--- an open date-time has a continuation of at most ten bytes that changes the answer
-pub datetime-hopeful : Hopeful 10 Anything dateTime
-datetime-hopeful = datetime-item .lawful .hopeful
+-- what code says of the rule at the beginning is what a reader has to promise: an open date-time has a continuation of at most ten bytes
+-- that changes the answer
+pub datetime-begins : (c : Choices) (s : List ℕ) (f : Found DateTime) (m : Bool) → Says (dateTime c) s 0 f m → Begins 10 (dateTime c) s (begun f) (verdictOf m)
+datetime-begins c = lawful-begins (datetime-item c .lawful)

@@ -6,18 +6,22 @@ ghost use Rattle.datetime.specs.Answer.{dateTimeFound, dateTimeMore};
 use date::DateFound;
 use parser::Mark;
 use time::TimeFound;
+use types::Choices;
 use types::Date;
 use types::DateTime;
 
 // What is read at one go, before the rule is asked.
 pub mod plain;
 
-// What reading at a place finds. `more`: the input ended where a byte more could still matter. Wrong: nothing, whatever follows.
-// Cut: nothing yet, but the input ended where it could still come right.
+// What reading at a place finds. `more`: the input ended where a byte more could still matter. Stopped: no form, as the time is none.
+// Wrong: nothing, whatever follows. Cut: nothing yet, but the input ended where it could still come right.
 pub enum DateTimeFound {
     Got {
         value: DateTime,
         next: usize,
+        more: bool,
+    },
+    Stopped {
         more: bool,
     },
     Wrong,
@@ -37,10 +41,10 @@ fn no_datetime(more: bool) -> DateTimeFound
 }
 
 // The time of a date. `more`: the date was left open.
-fn time_of(s: &[u8], at: usize, date: Date, more: bool) -> DateTimeFound
-    ensures { λ r. ⌜ SaysOn more (timeOf date) (now (s .entry)) at (dateTimeFound r) (dateTimeMore r) ⌝ }
+fn time_of(s: &[u8], at: usize, date: Date, more: bool, choices: Choices) -> DateTimeFound
+    ensures { λ r. ⌜ SaysOn more (timeOf choices date) (now (s .entry)) at (dateTimeFound r) (dateTimeMore r) ⌝ }
 {
-    let found = time::base_time(s, at);
+    let found = time::base_time(s, at, choices);
     match found {
         TimeFound::Got {
             value: time,
@@ -51,30 +55,31 @@ fn time_of(s: &[u8], at: usize, date: Date, more: bool) -> DateTimeFound
             next, // past the time, not past the date
             more: parser::either_open(more, open),
         },
+        TimeFound::Stopped => DateTimeFound::Stopped { more },
         TimeFound::Wrong => no_datetime(more),
         TimeFound::Cut => DateTimeFound::Cut,
     }
 }
 
 // T and the time of a date. `more`: the date was left open.
-fn after_date(s: &[u8], at: usize, date: Date, more: bool) -> DateTimeFound
-    ensures { λ r. ⌜ SaysOn more (afterDate date) (now (s .entry)) at (dateTimeFound r) (dateTimeMore r) ⌝ }
+fn after_date(s: &[u8], at: usize, date: Date, more: bool, choices: Choices) -> DateTimeFound
+    ensures { λ r. ⌜ SaysOn more (afterDate choices date) (now (s .entry)) at (dateTimeFound r) (dateTimeMore r) ⌝ }
 {
     let mark = parser::literal(s, at, 84);
     match mark {
-        Mark::Got { next } => time_of(s, next, date, more),
+        Mark::Got { next } => time_of(s, next, date, more, choices),
         Mark::Wrong => no_datetime(more),
         Mark::Cut => DateTimeFound::Cut,
     }
 }
 
 // A date-time from a place on.
-pub fn datetime_at(s: &[u8], at: usize) -> DateTimeFound
-    ensures { λ r. ⌜ Says dateTime (now (s .entry)) at (dateTimeFound r) (dateTimeMore r) ⌝ }
+pub fn datetime_at(s: &[u8], at: usize, choices: Choices) -> DateTimeFound
+    ensures { λ r. ⌜ Says (dateTime choices) (now (s .entry)) at (dateTimeFound r) (dateTimeMore r) ⌝ }
 {
     let found = date::date_at(s, at);
     match found {
-        DateFound::Got { value, next, more } => after_date(s, next, value, more),
+        DateFound::Got { value, next, more } => after_date(s, next, value, more, choices),
         DateFound::Wrong => DateTimeFound::Wrong,
         DateFound::Cut => DateTimeFound::Cut,
     }

@@ -8,6 +8,7 @@ use crate::DateTimeFound;
 use crate::datetime_at;
 use looks::PlainDate;
 use time::plain::PlainTime;
+use types::Choices;
 use types::DateTime;
 
 // A date-time of the plain form; or no such date-time, and the rule has to tell. `more`: the input ended behind it.
@@ -65,19 +66,20 @@ fn plain_stamp(s: &[u8]) -> PlainStamp
 }
 
 // A date-time at the very beginning. The plain form is tried before the rule.
-pub fn datetime_begun(s: &[u8]) -> DateTimeFound
-    ensures { λ r. ⌜ Says dateTime (now (s .entry)) 0 (dateTimeFound r) (dateTimeMore r) ⌝ }
+pub fn datetime_begun(s: &[u8], choices: Choices) -> DateTimeFound
+    ensures { λ r. ⌜ Says (dateTime choices) (now (s .entry)) 0 (dateTimeFound r) (dateTimeMore r) ⌝ }
 {
     let plain = plain_stamp(s);
     match plain {
         PlainStamp::Got { value, next, more } => DateTimeFound::Got { value, next, more },
         PlainStamp::Other => {
             // taken apart and made anew: else the plain answer, too, would go through memory
-            let found = datetime_at(s, 0);
+            let found = datetime_at(s, 0, choices);
             match found {
                 DateTimeFound::Got { value, next, more } => {
                     DateTimeFound::Got { value, next, more }
                 }
+                DateTimeFound::Stopped { more } => DateTimeFound::Stopped { more },
                 DateTimeFound::Wrong => DateTimeFound::Wrong,
                 DateTimeFound::Cut => DateTimeFound::Cut,
             }

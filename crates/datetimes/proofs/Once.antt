@@ -2,6 +2,7 @@
 use Prim.Native.Nat.{ℕ}
 use mathlib.Core.List.{List}
 use mathlib.Core.Path.{_≡_, sym, ap₂, _∙_}
+use Rattle.types.specs.declared.Choices.{Choices}
 use Rattle.types.specs.declared.Verdict.{Verdict}
 use Rattle.types.proofs.Laws.{number-once}
 use Rattle.parser.proofs.Verdict.{begins-once, recorded-once, refused-once, recorded-or-refused}
@@ -17,10 +18,10 @@ told-once (Record v m) (Refused r n) e = absurd (recorded-or-refused e)
 told-once (Refused r n) (Record v m) e = absurd (recorded-or-refused (sym e))
 told-once (Refused r m) (Refused q n) e = let x = refused-once _ _ m n e in ap₂ Refused (number-once r q (x .0)) (x .1)
 
-pub read-once : (s : List ℕ) (a b : DateTimeRead) → dateTimeReads s a → dateTimeReads s b → a ≡ b
-read-once s a b h k =
-    let x = begins-once 10 dateTime s _ _ _ _ h k in
+pub read-once : (c : Choices) (s : List ℕ) (a b : DateTimeRead) → dateTimeReads c s a → dateTimeReads c s b → a ≡ b
+read-once c s a b h k =
+    let x = begins-once 10 (dateTime c) s _ _ _ _ h k in
     ap₂ (λ (t : DateTimeAnswer) (v : Verdict). record { answer = t; verdict = v }) (told-once (a .answer) (b .answer) (x .0)) (x .1)
 
-pub parsed-once : (s : List ℕ) (a b : DateTimeAnswer) → dateTimeParses s a → dateTimeParses s b → a ≡ b
-parsed-once s a b h k = told-once a b (h ∙ sym k)
+pub parsed-once : (c : Choices) (s : List ℕ) (a b : DateTimeAnswer) → dateTimeParses c s a → dateTimeParses c s b → a ≡ b
+parsed-once c s a b h k = told-once a b (h ∙ sym k)

@@ -2,6 +2,7 @@
 use Prim.Native.Nat.{ℕ}
 use mathlib.Core.List.{List}
 use Rattle.types.specs.Numbers.{numberOf}
+use Rattle.types.specs.declared.Choices.{Choices}
 use Rattle.types.specs.declared.DateTime.{DateTime}
 use Rattle.parser.specs.Answer.{Told, recorded, refused, Begins, Ended}
 use Rattle.datetime.specs.Rules.{dateTime}
@@ -14,8 +15,8 @@ dateTimeTold (Record d n) = recorded d n
 dateTimeTold (Refused r n) = refused (numberOf r) n
 
 -- what the two readers promise of their answers
-abbrev pub dateTimeReads : List ℕ → DateTimeRead → Type 0
-dateTimeReads s r = Begins 10 dateTime s (dateTimeTold (r .answer)) (r .verdict)
+abbrev pub dateTimeReads : Choices → List ℕ → DateTimeRead → Type 0
+dateTimeReads c s r = Begins 10 (dateTime c) s (dateTimeTold (r .answer)) (r .verdict)
 
-abbrev pub dateTimeParses : List ℕ → DateTimeAnswer → Type 0
-dateTimeParses s a = Ended dateTime s (dateTimeTold a)
+abbrev pub dateTimeParses : Choices → List ℕ → DateTimeAnswer → Type 0
+dateTimeParses c s a = Ended (dateTime c) s (dateTimeTold a)

@@ -3,6 +3,7 @@ ghost use Rattle.parser.specs.Answer.{Rest};
 ghost use Rattle.datetime.specs.Rules.{dateTime};
 ghost use Rattle.datetimes.specs.Answer.{dateTimeReads, dateTimeParses};
 use datetime::DateTimeFound;
+use types::Choices;
 use types::DateTime;
 use types::Refusal;
 use types::Verdict;
@@ -20,14 +21,21 @@ pub struct DateTimeRead {
 }
 
 // Reads the date-time that the bytes begin with.
-pub fn datetime(s: &[u8]) -> DateTimeRead
-    ensures { λ r. ⌜ dateTimeReads (now (s .entry)) r ⌝ }
+pub fn datetime(s: &[u8], choices: Choices) -> DateTimeRead
+    ensures { λ r. ⌜ dateTimeReads choices (now (s .entry)) r ⌝ }
 {
-    let found = datetime::plain::datetime_begun(s);
+    let found = datetime::plain::datetime_begun(s, choices);
     match found {
         DateTimeFound::Got { value, next, more } => DateTimeRead {
             answer: DateTimeAnswer::Record { value, count: next },
             verdict: parser::verdict_on(more),
+        },
+        DateTimeFound::Stopped { more: date } => DateTimeRead {
+            answer: DateTimeAnswer::Refused {
+                why: Refusal::NoForm,
+                count: 0,
+            },
+            verdict: parser::verdict_on(date),
         },
         DateTimeFound::Wrong => DateTimeRead {
             answer: DateTimeAnswer::Refused {
@@ -47,26 +55,27 @@ pub fn datetime(s: &[u8]) -> DateTimeRead
 }
 
 // The bytes that `datetime` leaves: those after the date-time, or all of them where there is none.
-pub fn datetime_rest(s: &[u8]) -> &[u8]
-    ensures { λ r. ⌜ Rest dateTime (now (s .entry)) (now r) ⌝ }
+pub fn datetime_rest(s: &[u8], choices: Choices) -> &[u8]
+    ensures { λ r. ⌜ Rest (dateTime choices) (now (s .entry)) (now r) ⌝ }
 {
-    let found = datetime::datetime_at(s, 0);
+    let found = datetime::datetime_at(s, 0, choices);
     match found {
         DateTimeFound::Got {
             value: _,
             next,
             more: _,
         } => parser::leftover(s, next),
+        DateTimeFound::Stopped { more: _ } => s,
         DateTimeFound::Wrong => s,
         DateTimeFound::Cut => s,
     }
 }
 
 // Reads bytes that are one date-time from the first to the last.
-pub fn parse_datetime(s: &[u8]) -> DateTimeAnswer
-    ensures { λ r. ⌜ dateTimeParses (now (s .entry)) r ⌝ }
+pub fn parse_datetime(s: &[u8], choices: Choices) -> DateTimeAnswer
+    ensures { λ r. ⌜ dateTimeParses choices (now (s .entry)) r ⌝ }
 {
-    let found = datetime::datetime_at(s, 0);
+    let found = datetime::datetime_at(s, 0, choices);
     match found {
         DateTimeFound::Got {
             value,
@@ -82,6 +91,10 @@ pub fn parse_datetime(s: &[u8]) -> DateTimeAnswer
                 DateTimeAnswer::Record { value, count: next }
             }
         }
+        DateTimeFound::Stopped { more: _ } => DateTimeAnswer::Refused {
+            why: Refusal::NoForm,
+            count: 0,
+        },
         DateTimeFound::Wrong => DateTimeAnswer::Refused {
             why: Refusal::NoForm,
             count: 0,

@@ -1,31 +1,45 @@
--- The laws of times, part by part: each is what it is made of, and what may be absent takes nothing where the input ends.
+-- The laws of times, part by part: each is what it is made of, and what may be absent takes nothing where the input ends. The edition is a
+-- parameter: behind an hour that ends the day a completion may stop the reading, and only there.
 use Prim.Native.Nat.{ℕ}
 use mathlib.Core.List.{List, [], _∷_}
+use mathlib.Core.Bool.{Bool, true, false}
 use mathlib.Core.Path.{refl}
-use Rattle.parser.specs.Digits.{isDigit}
+use native.Mathlib.Omega.{arith}
+use lib.Dec.{eqb}
+use Rattle.types.specs.declared.Time.{Time}
+use Rattle.types.specs.declared.Choices.{Choices}
+use Rattle.types.specs.declared.Edition.{Edition}
+use Rattle.types.specs.declared.Edition.the-variants.{E2004, E2019}
+use Rattle.parser.specs.Reading.{Found, Says, opt, seq}
+use Rattle.parser.specs.Answer.{begun, Begins, verdictOf}
+use Rattle.parser.specs.Digits.{isDigit, field}
 use Rattle.parser.specs.Fields.{orZero}
-use Rattle.parser.proofs.Stable.{Stable}
-use Rattle.parser.proofs.Places.{Bounded}
-use Rattle.parser.proofs.Hopeful.{Anything, Hopeful}
+use Rattle.parser.proofs.Places.{Bounded, Fails, lit-fails, field-fails, must-fails, seq-skips, opt-skips}
+use Rattle.parser.proofs.Hopeful.{Anything, never-stops}
 use Rattle.parser.proofs.General.{Eager}
-use Rattle.parser.proofs.Lawful.{Tail, map-tail, seq-tail, Item, widen, opt-tail, seq-item}
-use Rattle.parser.proofs.Items.{either-mark, after-item, preceded-item, field-item, fraction-item}
+use Rattle.parser.proofs.Steady.{Steady, map-steady, must-steady, opt-steady, seq-steady, run-steady}
+use Rattle.parser.proofs.Stricter.{stricter-hopeful}
+use Rattle.parser.proofs.Lawful.{Outside, outside-digit, lawful-begins, Tail, TailOr, tail-or, map-tail, seq-tail, Item, ItemOr, widen, opt-tail, seq-item}
+use Rattle.parser.proofs.Items.{lit-mark, either-mark, after-item, preceded-item, field-item, fraction-item}
 use Rattle.offset.proofs.Laws.{offset-item}
-use Rattle.time.specs.Rules.{Clock, millisecond, secondMillisecond, minuteSecondMillisecond, orMidnight, timeOffset, afterHour, baseTime, time}
+use Rattle.time.specs.Rules.{Clock, hourOf, endsDay, millisecond, secondMillisecond, minuteSecondMillisecond, orMidnight, timeOffset, afterHour, baseTime, time}
+use Rattle.time.proofs.EndOfDay.{zeroField, after-hour-stricter, after-hour-valued}
 
 -- what a time takes beside digits: `T`, `:`, `,`, `.`, and what an offset takes, `+`, `-`, `:` and `Z`
 abbrev pub bytes : List ℕ
 bytes = 84 ∷ 58 ∷ 44 ∷ 46 ∷ 43 ∷ 45 ∷ 90 ∷ []
 
-millisecond-tail : (mi se : ℕ) → Tail bytes 2 (millisecond mi se)
+-- ---- behind any hour but one that ends the day
+
+millisecond-tail : (mi se : ℕ) → Tail bytes 2 (millisecond false mi se)
 unfolding millisecond
 millisecond-tail mi se = map-tail _ (opt-tail (after-item (either-mark 44 46 refl refl) (λ _. fraction-item)))
 
-second-tail : (mi : ℕ) → Tail bytes 2 (secondMillisecond mi)
+second-tail : (mi : ℕ) → Tail bytes 2 (secondMillisecond false mi)
 unfolding secondMillisecond
 second-tail mi = seq-tail (opt-tail (preceded-item 58 refl refl (field-item 2 0 60 refl))) (λ se. millisecond-tail mi (orZero se))
 
-minute-item : Item bytes isDigit 2 2 Anything minuteSecondMillisecond
+minute-item : Item bytes isDigit 2 2 Anything (minuteSecondMillisecond false)
 unfolding minuteSecondMillisecond
 minute-item = seq-item (preceded-item 58 refl refl (field-item 2 0 59 refl)) second-tail
 
@@ -33,31 +47,74 @@ offset-tail : (h : ℕ) (k : Clock) → Tail bytes 3 (timeOffset h k)
 unfolding timeOffset
 offset-tail h k = map-tail _ (opt-tail (widen refl offset-item))
 
-after-hour-tail : (h : ℕ) → Tail bytes 3 (afterHour h)
+after-hour-tail : (h : ℕ) → Tail bytes 3 (afterHour false h)
 unfolding afterHour
 after-hour-tail h = seq-tail (opt-tail minute-item) (λ k. offset-tail h (orMidnight k))
 
--- two digits are a time
-pub base-time-item : Item bytes isDigit 2 3 Anything baseTime
-unfolding baseTime
-base-time-item = seq-item (field-item 2 0 23 refl) after-hour-tail
+-- ---- behind an hour that ends the day
 
-pub time-item : Item bytes isDigit 2 3 Anything time
+zero-steady : (hi : ℕ) → Steady (Outside bytes) (field 2 0 hi) → Steady (Outside bytes) (zeroField hi)
+zero-steady hi h = seq-steady (opt-steady (lit-mark {l = bytes} 58 refl .item .lawful .steady)) (λ _. must-steady _ 1 h)
+
+minute-steady : Steady (Outside bytes) (minuteSecondMillisecond true)
+unfolding minuteSecondMillisecond secondMillisecond millisecond
+minute-steady =
+    seq-steady (zero-steady 59 (field-item {l = bytes} 2 0 59 refl .lawful .steady)) (λ mi.
+    seq-steady (opt-steady (zero-steady 60 (field-item {l = bytes} 2 0 60 refl .lawful .steady))) (λ se.
+    map-steady _ (opt-steady (seq-steady (either-mark {l = bytes} 44 46 refl refl .item .lawful .steady) (λ _. run-steady 0 1 (outside-digit bytes))))))
+
+minute-fails : Fails (minuteSecondMillisecond true)
+unfolding minuteSecondMillisecond opt seq
+minute-fails s at h = rw (lit-fails 58 s at h, must-fails (λ v. eqb v 0) 1 (field 2 0 59) (field-fails 2 0 59 (omega arith)) s at h)
+
+end-of-day-tail : {W : Type 0} → W → (h : ℕ) → TailOr W Unit bytes 3 Anything (afterHour true h)
+unfolding afterHour
+end-of-day-tail w h = record {
+  lawful = record {
+    steady = seq-steady (opt-steady minute-steady) (λ k. offset-tail h (orMidnight k) .lawful .steady);
+    hopeful = stricter-hopeful (afterHour true h) (afterHour false h) w (after-hour-stricter h) (after-hour-valued h) (never-stops (after-hour-tail h .lawful .hopeful));
+  };
+  skips = λ c. seq-skips Anything Anything (opt (minuteSecondMillisecond true)) (λ k. timeOffset h (orMidnight k)) (opt-skips Anything (minuteSecondMillisecond true) tt minute-fails) (λ k _. offset-tail h (orMidnight k) .skips tt);
+}
+
+-- ---- the two editions
+
+-- whether a completion may stop the reading
+abbrev pub MayStop : Edition → Type 0
+MayStop E2019 = ⊥
+MayStop E2004 = Unit
+
+hour-item : (e : Edition) → Item bytes isDigit 2 2 Anything (hourOf e)
+hour-item E2019 = field-item 2 0 23 refl
+hour-item E2004 = field-item 2 0 24 refl
+
+tail-of : (e : Edition) (h : ℕ) → TailOr (MayStop e) Unit bytes 3 Anything (afterHour (endsDay e h) h)
+tail-of E2019 h = after-hour-tail h
+tail-of E2004 h = go (eqb h 24)
+  where
+    go : (z : Bool) → TailOr (MayStop E2004) Unit bytes 3 Anything (afterHour z h)
+    go true = end-of-day-tail tt h
+    go false = tail-or (after-hour-tail h)
+
+-- two digits are a time
+pub base-time-item : (c : Choices) → ItemOr (MayStop (c .edition)) bytes isDigit 2 3 Anything (baseTime c)
+unfolding baseTime
+base-time-item c = seq-item (hour-item (c .edition)) (tail-of (c .edition))
+
+pub time-item : (c : Choices) → ItemOr (MayStop (c .edition)) bytes isDigit 2 3 Anything (time c)
 unfolding time
-time-item = preceded-item 84 refl refl base-time-item
+time-item c = preceded-item 84 refl refl (base-time-item c)
 
 -- ---- by their names
 
 -- an hour can follow wherever the input ends
-pub base-time-eager : Eager baseTime
-base-time-eager = base-time-item .eager
+pub base-time-eager : (c : Choices) → Eager (baseTime c)
+base-time-eager c = base-time-item c .eager
 
-pub time-stable : Stable time
-time-stable = time-item .lawful .stable
+pub time-bounded : (c : Choices) → Bounded (time c)
+time-bounded c = time-item c .lawful .steady .bounded
 
-pub time-bounded : Bounded time
-time-bounded = time-item .lawful .bounded
-
--- an open time has a continuation of at most three bytes that changes the answer
-pub time-hopeful : Hopeful 3 Anything time
-time-hopeful = time-item .lawful .hopeful
+-- what code says of the rule at the beginning is what a reader has to promise: an open time has a continuation of at most three bytes that
+-- changes the answer
+pub time-begins : (c : Choices) (s : List ℕ) (f : Found Time) (m : Bool) → Says (time c) s 0 f m → Begins 3 (time c) s (begun f) (verdictOf m)
+time-begins c = lawful-begins (time-item c .lawful)

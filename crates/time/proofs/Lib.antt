@@ -1,1 +1,4 @@
+pub mod EndOfDay
+pub mod Document
 pub mod Laws
+pub mod Zero

@@ -1,15 +1,39 @@
--- Document 01's rule of times.
+-- Document 01's rule of times, and beside it request W5's: "The caller names 2004 or 2019. 2019 is document 01 as it stands". What W5 adds
+-- asks whether the hour ends the day, and under 2019 none does (`proofs/Document.antt`).
 use Prim.Native.Nat.{ℕ}
+use mathlib.Core.Bool.{Bool, true, false}
 use mathlib.Core.Option.{Option, some, none}
+use lib.Dec.{eqb}
+use Rattle.types.specs.declared.Choices.{Choices}
+use Rattle.types.specs.declared.Edition.{Edition}
+use Rattle.types.specs.declared.Edition.the-variants.{E2004, E2019}
 use Rattle.types.specs.declared.Offset.{Offset}
 use Rattle.types.specs.declared.Time.{Time}
 use Rattle.types.specs.declared.TimeOffset.{TimeOffset}
 use Rattle.types.specs.declared.TimeOffset.the-variants.{Absent, Given}
-use Rattle.parser.specs.Reading.{Reader, seq, opt, map}
-use Rattle.parser.specs.Digits.{fraction}
-use Rattle.parser.specs.Fields.{hour, minute, second, either, precededBy}
+use Rattle.parser.specs.Reading.{Reader, seq, opt, must, map}
+use Rattle.parser.specs.Digits.{field, runUpTo, fraction}
+use Rattle.parser.specs.Fields.{hour, minute, second, either, precededBy, orZero}
 use Rattle.offset.specs.Rules.{offset}
-use Rattle.parser.specs.Fields.{orZero}
+
+-- "ISO 8601:2004 writes the end of a day as `24:00`": the hours of each edition, and the one that ends the day
+abbrev pub hourOf : Edition → Reader ℕ
+hourOf E2019 = hour
+hourOf E2004 = field 2 0 24
+
+abbrev pub endsDay : Edition → ℕ → Bool
+endsDay E2019 h = false
+endsDay E2004 h = eqb h 24
+
+-- "Under 2004 hour 24 is a record if the minute and second read are 0 [..]; otherwise no form": 1, whatever follows
+abbrev pub zeroIf : Bool → Reader ℕ → Reader ℕ
+zeroIf false p = p
+zeroIf true p = must (λ v. eqb v 0) 1 p
+
+-- "and every fraction digit written is 0, dropped digits too"
+abbrev pub fractionIf : Bool → Reader ℕ
+fractionIf false = fraction
+fractionIf true = runUpTo 0 1
 
 pub record Clock : Type 0 where
   pub minute : ℕ
@@ -20,18 +44,18 @@ abbrev pub clockOf : ℕ → ℕ → Option ℕ → Clock
 clockOf mi se f = record { minute = mi; second = se; nanosecond = orZero f }
 
 -- "optionally {comma or point, one or more digits}". "It counts as a fraction of a second even where no second was written."
-unfoldable pub millisecond : ℕ → ℕ → Reader Clock
-millisecond mi se =
+unfoldable pub millisecond : Bool → ℕ → ℕ → Reader Clock
+millisecond z mi se =
     map (clockOf mi se)
-    (opt (seq (either 44 46) (λ _. fraction)))
+    (opt (seq (either 44 46) (λ _. fractionIf z)))
 
 -- "optionally {optional colon, second 00 to 60}"
-unfoldable pub secondMillisecond : ℕ → Reader Clock
-secondMillisecond mi = seq (opt (precededBy 58 second)) (λ se. millisecond mi (orZero se))
+unfoldable pub secondMillisecond : Bool → ℕ → Reader Clock
+secondMillisecond z mi = seq (opt (precededBy 58 (zeroIf z second))) (λ se. millisecond z mi (orZero se))
 
 -- "optional colon, minute 00 to 59", and these
-unfoldable pub minuteSecondMillisecond : Reader Clock
-minuteSecondMillisecond = seq (precededBy 58 minute) secondMillisecond
+unfoldable pub minuteSecondMillisecond : Bool → Reader Clock
+minuteSecondMillisecond z = seq (precededBy 58 (zeroIf z minute)) (secondMillisecond z)
 
 -- "Absent fields are 0."
 abbrev pub orMidnight : Option Clock → Clock
@@ -50,13 +74,13 @@ timeOf h c o = record { hour = h; minute = c .minute; second = c .second; nanose
 unfoldable pub timeOffset : ℕ → Clock → Reader Time
 timeOffset h c = map (timeOf h c) (opt offset)
 
-unfoldable pub afterHour : ℕ → Reader Time
-afterHour h = seq (opt minuteSecondMillisecond) (λ c. timeOffset h (orMidnight c))
+unfoldable pub afterHour : Bool → ℕ → Reader Time
+afterHour z h = seq (opt (minuteSecondMillisecond z)) (λ c. timeOffset h (orMidnight c))
 
 -- "Hour 00 to 23; then optionally {..}; then optionally an offset."
-unfoldable pub baseTime : Reader Time
-baseTime = seq hour afterHour
+unfoldable pub baseTime : Choices → Reader Time
+baseTime c = seq (hourOf (c .edition)) (λ h. afterHour (endsDay (c .edition) h) h)
 
 -- "The time reader takes an optional `T` first"
-unfoldable pub time : Reader Time
-time = precededBy 84 baseTime
+unfoldable pub time : Choices → Reader Time
+time c = precededBy 84 (baseTime c)

@@ -1,20 +1,27 @@
 // Times of day (time.rs).
 ghost use mathlib.Core.Path.{_≡_};
+ghost use mathlib.Core.Bool.{true, not};
 ghost use mathlib.Core.Option.{none};
-ghost use Rattle.parser.specs.Reading.{Says, SaysOn, got};
-ghost use Rattle.time.specs.Rules.{clockOf, timeOf, millisecond, secondMillisecond, minuteSecondMillisecond, timeOffset, afterHour, baseTime, time};
-ghost use Rattle.time.specs.Answer.{clockFound, clockMore, midnightAt, orLeftOut, timeFound, timeMore};
+ghost use lib.Dec.{eqb};
+ghost use Rattle.parser.specs.Reading.{Says, SaysOn, no, got, and};
+ghost use Rattle.parser.specs.Fields.{either};
+ghost use Rattle.fields.specs.Read.{numberFound, numberMore};
+ghost use Rattle.runs.specs.Read.{foundUpTo, runMore};
+ghost use Rattle.time.specs.Rules.{hourOf, endsDay, fractionIf, clockOf, timeOf, millisecond, secondMillisecond, minuteSecondMillisecond, timeOffset, afterHour, baseTime, time};
+ghost use Rattle.time.specs.Answer.{clockFound, clockMore, timeFound, timeMore};
 use fields::Number;
 use offset::OffsetFound;
 use parser::Mark;
 use runs::Run;
+use types::Choices;
+use types::Edition;
 use types::Time;
 use types::TimeOffset;
 
 // What is read at one go, before the rule is asked.
 pub mod plain;
 
-// What reading minute, second and fraction at a place finds; an absent one is 0. `more`, Wrong and Cut: as in TimeFound.
+// What reading minute, second and fraction at a place finds; an absent one is 0. `more`, Stopped, Wrong and Cut: as in TimeFound.
 pub enum ClockFound {
     Got {
         minute: u32,
@@ -23,20 +30,51 @@ pub enum ClockFound {
         next: usize,
         more: bool,
     },
+    Stopped,
     Wrong,
     Cut,
 }
 
-// What reading at a place finds. `more`: the input ended where a byte more could still matter. Wrong: nothing, whatever follows.
-// Cut: nothing yet, but the input ended where it could still come right.
+// What reading at a place finds. `more`: the input ended where a byte more could still matter. Stopped: no form, since what follows an hour
+// that ends the day is not 0. Wrong: nothing, whatever follows. Cut: nothing yet, but the input ended where it could still come right.
 pub enum TimeFound {
     Got {
         value: Time,
         next: usize,
         more: bool,
     },
+    Stopped,
     Wrong,
     Cut,
+}
+
+// Whether the hour ends the day: 24, which only 2004 has.
+fn ends_day(choices: Choices, hour: u32) -> bool
+    ensures { λ r. ⌜ r ≡ endsDay (choices .edition) hour ⌝ }
+{
+    let edition = choices.edition;
+    match edition {
+        Edition::E2004 => hour == 24,
+        Edition::E2019 => false,
+    }
+}
+
+// Whether a number that has to be 0 is not.
+fn stops(zero: bool, value: u32) -> bool
+    ensures { λ r. ⌜ r ≡ and zero (not (eqb value 0)) ⌝ }
+{
+    zero && value != 0
+}
+
+// The digits behind a comma or point, in nanoseconds. `zero`: all have to be 0.
+fn fraction_at(s: &[u8], at: usize, zero: bool) -> Run
+    ensures { λ r. ⌜ Says (fractionIf zero) (now (s .entry)) at (foundUpTo 1 r) (runMore r) ⌝ }
+{
+    if zero {
+        runs::take_zeros(s, at)
+    } else {
+        runs::fraction_nanosecond(s, at)
+    }
 }
 
 // A clock without a fraction.
@@ -53,14 +91,22 @@ fn no_fraction(minute: u32, second: u32, next: usize, more: bool) -> ClockFound
     }
 }
 
-// [(,|.)(m*)]; `more`: what came before was left open
-fn time_millisecond(s: &[u8], at: usize, minute: u32, second: u32, more: bool) -> ClockFound
-    ensures { λ r. ⌜ SaysOn more (millisecond minute second) (now (s .entry)) at (clockFound r) (clockMore r) ⌝ }
+// [(,|.)(m*)]; `more`: what came before was left open, and then no comma or point stands here
+fn time_millisecond(
+    s: &[u8],
+    at: usize,
+    minute: u32,
+    second: u32,
+    more: bool,
+    zero: bool,
+) -> ClockFound
+    requires { ⌜ (more ≡ true → either 44 46 .reads (now s) at ≡ no) ⌝ }
+    ensures { λ r. ⌜ SaysOn more (millisecond zero minute second) (now (s .entry)) at (clockFound r) (clockMore r) ⌝ }
 {
     let mark = parser::one_of(s, at, 44, 46);
     match mark {
         Mark::Got { next } => {
-            let fraction = runs::fraction_nanosecond(s, next);
+            let fraction = fraction_at(s, next, zero);
             match fraction {
                 Run::Got {
                     value,
@@ -73,7 +119,7 @@ fn time_millisecond(s: &[u8], at: usize, minute: u32, second: u32, more: bool) -
                     next,
                     more: parser::either_open(more, digits),
                 },
-                Run::TooBig => ClockFound::Wrong,
+                Run::TooBig => ClockFound::Stopped,
                 Run::Wrong => no_fraction(minute, second, at, more),
                 Run::Cut => no_fraction(minute, second, at, true),
             }
@@ -84,20 +130,28 @@ fn time_millisecond(s: &[u8], at: usize, minute: u32, second: u32, more: bool) -
 }
 
 // [[:]SS][(,|.)(m*)]
-fn time_second_millisecond(s: &[u8], at: usize, minute: u32) -> ClockFound
-    ensures { λ r. ⌜ Says (secondMillisecond minute) (now (s .entry)) at (clockFound r) (clockMore r) ⌝ }
+fn time_second_millisecond(s: &[u8], at: usize, minute: u32, zero: bool) -> ClockFound
+    ensures { λ r. ⌜ Says (secondMillisecond zero minute) (now (s .entry)) at (clockFound r) (clockMore r) ⌝ }
 {
     let second = fields::or_left_out(at, fields::after_colon(s, at, 60));
-    time_millisecond(s, second.next, minute, second.value, second.more)
+    if stops(zero, second.value) {
+        return ClockFound::Stopped;
+    }
+    time_millisecond(s, second.next, minute, second.value, second.more, zero)
 }
 
-// [:]MM[[:]SS][(,|.)(m*)]
-pub fn time_minute_second_millisecond(s: &[u8], at: usize) -> ClockFound
-    ensures { λ r. ⌜ Says minuteSecondMillisecond (now (s .entry)) at (clockFound r) (clockMore r) ⌝ }
+// [:]MM[[:]SS][(,|.)(m*)]; `zero`: what is read has to be 0
+pub fn time_minute_second_millisecond(s: &[u8], at: usize, zero: bool) -> ClockFound
+    ensures { λ r. ⌜ Says (minuteSecondMillisecond zero) (now (s .entry)) at (clockFound r) (clockMore r) ⌝ }
 {
     let minute = fields::after_colon(s, at, 59);
     match minute {
-        Number::Got { value, next } => time_second_millisecond(s, next, value),
+        Number::Got { value, next } => {
+            if stops(zero, value) {
+                return ClockFound::Stopped;
+            }
+            time_second_millisecond(s, next, value, zero)
+        }
         Number::Wrong => ClockFound::Wrong,
         Number::Cut => ClockFound::Cut,
     }
@@ -163,80 +217,51 @@ fn no_offset(
     }
 }
 
-// Minute, second and fraction, each 0 where they are left out.
-struct ClockPart {
-    minute: u32,
-    second: u32,
-    nanosecond: u32,
-    next: usize,
-    more: bool,
-}
-
-fn or_midnight(at: usize, found: ClockFound) -> ClockPart
-    ensures { λ r. ⌜ r ≡ orLeftOut at found ⌝ }
+// What follows the hour. `zero`: it ends the day.
+fn time_after_hour(s: &[u8], at: usize, hour: u32, zero: bool) -> TimeFound
+    ensures { λ r. ⌜ Says (afterHour zero hour) (now (s .entry)) at (timeFound r) (timeMore r) ⌝ }
 {
-    match found {
+    let clock = time_minute_second_millisecond(s, at, zero);
+    match clock {
         ClockFound::Got {
             minute,
             second,
             nanosecond,
             next,
             more,
-        } => ClockPart {
-            minute,
-            second,
-            nanosecond,
-            next,
-            more,
-        },
-        ClockFound::Wrong => midnight(at, false),
-        ClockFound::Cut => midnight(at, true),
+        } => time_offset(s, next, hour, minute, second, nanosecond, more),
+        ClockFound::Stopped => TimeFound::Stopped,
+        ClockFound::Wrong => time_offset(s, at, hour, 0, 0, 0, false),
+        ClockFound::Cut => time_offset(s, at, hour, 0, 0, 0, true),
     }
 }
 
-fn midnight(next: usize, more: bool) -> ClockPart
-    ensures { λ r. ⌜ r ≡ midnightAt next more ⌝ }
+// HH
+fn time_hour(s: &[u8], at: usize, choices: Choices) -> Number
+    ensures { λ r. ⌜ Says (hourOf (choices .edition)) (now (s .entry)) at (numberFound r) (numberMore r) ⌝ }
 {
-    ClockPart {
-        minute: 0,
-        second: 0,
-        nanosecond: 0,
-        next,
-        more,
+    let edition = choices.edition;
+    match edition {
+        Edition::E2004 => fields::take_digits_in_range(s, at, 2, 0, 24),
+        Edition::E2019 => fields::take_digits_in_range(s, at, 2, 0, 23),
     }
-}
-
-// What follows the hour.
-fn time_after_hour(s: &[u8], at: usize, hour: u32) -> TimeFound
-    ensures { λ r. ⌜ Says (afterHour hour) (now (s .entry)) at (timeFound r) (timeMore r) ⌝ }
-{
-    let clock = or_midnight(at, time_minute_second_millisecond(s, at));
-    time_offset(
-        s,
-        clock.next,
-        hour,
-        clock.minute,
-        clock.second,
-        clock.nanosecond,
-        clock.more,
-    )
 }
 
 // HH[[:]MM[[:]SS][(,|.)(m*)]][(Z|+...|-...)]
-pub fn base_time(s: &[u8], at: usize) -> TimeFound
-    ensures { λ r. ⌜ Says baseTime (now (s .entry)) at (timeFound r) (timeMore r) ⌝ }
+pub fn base_time(s: &[u8], at: usize, choices: Choices) -> TimeFound
+    ensures { λ r. ⌜ Says (baseTime choices) (now (s .entry)) at (timeFound r) (timeMore r) ⌝ }
 {
-    let hour = fields::time_hour(s, at);
+    let hour = time_hour(s, at, choices);
     match hour {
-        Number::Got { value, next } => time_after_hour(s, next, value),
+        Number::Got { value, next } => time_after_hour(s, next, value, ends_day(choices, value)),
         Number::Wrong => TimeFound::Wrong,
         Number::Cut => TimeFound::Cut,
     }
 }
 
 // [T]HH...
-pub fn time_at(s: &[u8], at: usize) -> TimeFound
-    ensures { λ r. ⌜ Says time (now (s .entry)) at (timeFound r) (timeMore r) ⌝ }
+pub fn time_at(s: &[u8], at: usize, choices: Choices) -> TimeFound
+    ensures { λ r. ⌜ Says (time choices) (now (s .entry)) at (timeFound r) (timeMore r) ⌝ }
 {
-    base_time(s, parser::past(s, at, 84))
+    base_time(s, parser::past(s, at, 84), choices)
 }

@@ -8,6 +8,7 @@ use crate::TimeFound;
 use crate::time_at;
 use looks::PlainClock;
 use looks::PlainOffset;
+use types::Choices;
 use types::Time;
 use types::TimeOffset;
 
@@ -89,8 +90,8 @@ pub fn first_plain(first: PlainTime, second: PlainTime) -> PlainTime
 }
 
 // A time at the very beginning. The plain forms HH:MM:SS.mmm and HH:MM:SS, alone or with an offset, are tried before the rule.
-pub fn time_begun(s: &[u8]) -> TimeFound
-    ensures { λ r. ⌜ Says time (now (s .entry)) 0 (timeFound r) (timeMore r) ⌝ }
+pub fn time_begun(s: &[u8], choices: Choices) -> TimeFound
+    ensures { λ r. ⌜ Says (time choices) (now (s .entry)) 0 (timeFound r) (timeMore r) ⌝ }
 {
     let clock = looks::plain_clock(s, 0);
     let exact = plain_time(s, 12, clock, looks::plain_millisecond(s, 8));
@@ -99,9 +100,10 @@ pub fn time_begun(s: &[u8]) -> TimeFound
         PlainTime::Got { value, next, more } => TimeFound::Got { value, next, more },
         PlainTime::Other => {
             // taken apart and made anew: else the plain answer, too, would go through memory
-            let found = time_at(s, 0);
+            let found = time_at(s, 0, choices);
             match found {
                 TimeFound::Got { value, next, more } => TimeFound::Got { value, next, more },
+                TimeFound::Stopped => TimeFound::Stopped,
                 TimeFound::Wrong => TimeFound::Wrong,
                 TimeFound::Cut => TimeFound::Cut,
             }

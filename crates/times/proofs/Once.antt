@@ -2,6 +2,7 @@
 use Prim.Native.Nat.{ℕ}
 use mathlib.Core.List.{List}
 use mathlib.Core.Path.{_≡_, sym, ap₂, _∙_}
+use Rattle.types.specs.declared.Choices.{Choices}
 use Rattle.types.specs.declared.Verdict.{Verdict}
 use Rattle.types.proofs.Laws.{number-once}
 use Rattle.parser.proofs.Verdict.{begins-once, recorded-once, refused-once, recorded-or-refused}
@@ -20,9 +21,9 @@ told-once (Refused r m) (Refused q n) e = let x = refused-once _ _ m n e in ap�
 read-of : TimeAnswer → Verdict → TimeRead
 read-of a v = record { answer = a; verdict = v }
 
-pub read-once : (s : List ℕ) (a b : TimeRead) → timeReads s a → timeReads s b → a ≡ b
+pub read-once : (c : Choices) (s : List ℕ) (a b : TimeRead) → timeReads c s a → timeReads c s b → a ≡ b
 unfolding read-of
-read-once s a b h k = let x = begins-once 3 time s _ _ _ _ h k in ap₂ read-of (told-once (a .answer) (b .answer) (x .0)) (x .1)
+read-once c s a b h k = let x = begins-once 3 (time c) s _ _ _ _ h k in ap₂ read-of (told-once (a .answer) (b .answer) (x .0)) (x .1)
 
-pub parsed-once : (s : List ℕ) (a b : TimeAnswer) → timeParses s a → timeParses s b → a ≡ b
-parsed-once s a b h k = told-once a b (h ∙ sym k)
+pub parsed-once : (c : Choices) (s : List ℕ) (a b : TimeAnswer) → timeParses c s a → timeParses c s b → a ≡ b
+parsed-once c s a b h k = told-once a b (h ∙ sym k)

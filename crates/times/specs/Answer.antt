@@ -2,6 +2,7 @@
 use Prim.Native.Nat.{ℕ}
 use mathlib.Core.List.{List}
 use Rattle.types.specs.Numbers.{numberOf}
+use Rattle.types.specs.declared.Choices.{Choices}
 use Rattle.types.specs.declared.Time.{Time}
 use Rattle.parser.specs.Answer.{Told, recorded, refused, Begins, Ended}
 use Rattle.time.specs.Rules.{time}
@@ -14,8 +15,8 @@ timeTold (Record t n) = recorded t n
 timeTold (Refused r n) = refused (numberOf r) n
 
 -- what the two readers promise of their answers
-abbrev pub timeReads : List ℕ → TimeRead → Type 0
-timeReads s r = Begins 3 time s (timeTold (r .answer)) (r .verdict)
+abbrev pub timeReads : Choices → List ℕ → TimeRead → Type 0
+timeReads c s r = Begins 3 (time c) s (timeTold (r .answer)) (r .verdict)
 
-abbrev pub timeParses : List ℕ → TimeAnswer → Type 0
-timeParses s a = Ended time s (timeTold a)
+abbrev pub timeParses : Choices → List ℕ → TimeAnswer → Type 0
+timeParses c s a = Ended (time c) s (timeTold a)

@@ -5,6 +5,7 @@ ghost use Rattle.parser.specs.Answer.{Rest, refused, ended};
 ghost use Rattle.time.specs.Rules.{time};
 ghost use Rattle.times.specs.Answer.{timeTold, timeReads, timeParses};
 use time::TimeFound;
+use types::Choices;
 use types::Refusal;
 use types::Time;
 use types::Verdict;
@@ -22,15 +23,16 @@ pub struct TimeRead {
 }
 
 // Reads the time that the bytes begin with.
-pub fn time(s: &[u8]) -> TimeRead
-    ensures { λ r. ⌜ timeReads (now (s .entry)) r ⌝ }
+pub fn time(s: &[u8], choices: Choices) -> TimeRead
+    ensures { λ r. ⌜ timeReads choices (now (s .entry)) r ⌝ }
 {
-    let found = time::plain::time_begun(s);
+    let found = time::plain::time_begun(s, choices);
     match found {
         TimeFound::Got { value, next, more } => TimeRead {
             answer: TimeAnswer::Record { value, count: next },
             verdict: parser::verdict_on(more),
         },
+        TimeFound::Stopped => no_form(Verdict::Settled),
         TimeFound::Wrong => no_form(Verdict::Settled),
         TimeFound::Cut => no_form(Verdict::Open),
     }
@@ -49,32 +51,37 @@ fn no_form(verdict: Verdict) -> TimeRead
 }
 
 // The bytes that `time` leaves: those after the time, or all of them where there is none.
-pub fn time_rest(s: &[u8]) -> &[u8]
-    ensures { λ r. ⌜ Rest time (now (s .entry)) (now r) ⌝ }
+pub fn time_rest(s: &[u8], choices: Choices) -> &[u8]
+    ensures { λ r. ⌜ Rest (time choices) (now (s .entry)) (now r) ⌝ }
 {
-    let found = time::time_at(s, 0);
+    let found = time::time_at(s, 0, choices);
     match found {
         TimeFound::Got {
             value: _,
             next,
             more: _,
         } => parser::leftover(s, next),
+        TimeFound::Stopped => s,
         TimeFound::Wrong => s,
         TimeFound::Cut => s,
     }
 }
 
 // Reads bytes that are one time from the first to the last.
-pub fn parse_time(s: &[u8]) -> TimeAnswer
-    ensures { λ r. ⌜ timeParses (now (s .entry)) r ⌝ }
+pub fn parse_time(s: &[u8], choices: Choices) -> TimeAnswer
+    ensures { λ r. ⌜ timeParses choices (now (s .entry)) r ⌝ }
 {
-    let found = time::time_at(s, 0);
+    let found = time::time_at(s, 0, choices);
     match found {
         TimeFound::Got {
             value,
             next,
             more: _,
         } => whole_time(value, next, s.len()),
+        TimeFound::Stopped => TimeAnswer::Refused {
+            why: Refusal::NoForm,
+            count: 0,
+        },
         TimeFound::Wrong => TimeAnswer::Refused {
             why: Refusal::NoForm,
             count: 0,

@@ -29,7 +29,7 @@ returns : tie.Need-returns
 unfolding afterDate
 returns c =
     let a = c .before .before .before .before .before .before .args in
-    on-seq-got (a .more) (lit 84) (λ _. timeOf (a .date)) (a .s .now) (a .at) tt _ (a .more) _ _
+    on-seq-got (a .more) (lit 84) (λ _. timeOf (a .choices) (a .date)) (a .s .now) (a .at) tt _ (a .more) _ _
     (rw (or-false (a .more)) at (says-on (lit 84) (a .s .now) (a .at) _ (a .more) false (rw (c .before .before .mark .given .1) at (c .before .before .before .before .literal .ensures))))
     (c .time-of .ensures)
 
@@ -38,13 +38,13 @@ unfolding afterDate
 returns-2 c =
     let a = c .before .before .before .before .before .args in
     rw (c .no-datetime .ensures .0, c .no-datetime .ensures .1)
-    (on-seq-no (a .more) (lit 84) (λ _. timeOf (a .date)) (a .s .now) (a .at) _ (rw (or-false (a .more)) at (says-on (lit 84) (a .s .now) (a .at) _ (a .more) false (rw (c .before .enum-told .given .1) at (c .before .before .before .literal .ensures)))))
+    (on-seq-no (a .more) (lit 84) (λ _. timeOf (a .choices) (a .date)) (a .s .now) (a .at) _ (rw (or-false (a .more)) at (says-on (lit 84) (a .s .now) (a .at) _ (a .more) false (rw (c .before .enum-told .given .1) at (c .before .before .before .literal .ensures)))))
 
 returns-3 : tie.Need-returns-3
 unfolding afterDate
 returns-3 c =
     let a = c .before .before .before .before .args in
-    on-seq-no (a .more) (lit 84) (λ _. timeOf (a .date)) (a .s .now) (a .at) _ (rw (or-true (a .more)) at (says-on (lit 84) (a .s .now) (a .at) _ (a .more) true (rw (c .enum-told2 .given .1) at (c .before .before .literal .ensures))))
+    on-seq-no (a .more) (lit 84) (λ _. timeOf (a .choices) (a .date)) (a .s .now) (a .at) _ (rw (or-true (a .more)) at (says-on (lit 84) (a .s .now) (a .at) _ (a .more) true (rw (c .enum-told2 .given .1) at (c .before .before .literal .ensures))))
 
 pub after-date-spec : {M : Type 1} → statement M
 after-date-spec =

@@ -26,19 +26,19 @@ returns : tie.Need-returns
 unfolding dateTime
 returns c =
     let a = c .before .before .before .before .before .before .args in
-    says-seq-on date afterDate (a .s .now) (a .at) _ _ _ _ _ (rw (c .before .before .found .given .1) at (c .before .before .before .before .date-at .ensures)) (c .after-date .ensures)
+    says-seq-on date (afterDate (a .choices)) (a .s .now) (a .at) _ _ _ _ _ (rw (c .before .before .found .given .1) at (c .before .before .before .before .date-at .ensures)) (c .after-date .ensures)
 
 returns-2 : tie.Need-returns-2
 unfolding dateTime
 returns-2 c =
     let a = c .before .before .before .before .args in
-    says-seq-no date (a .s .now) (a .at) afterDate false (rw (c .enum-told .given .1) at (c .before .before .date-at .ensures))
+    says-seq-no date (a .s .now) (a .at) (afterDate (a .choices)) false (rw (c .enum-told .given .1) at (c .before .before .date-at .ensures))
 
 returns-3 : tie.Need-returns-3
 unfolding dateTime
 returns-3 c =
     let a = c .before .before .before .before .args in
-    says-seq-no date (a .s .now) (a .at) afterDate true (rw (c .enum-told2 .given .1) at (c .before .before .date-at .ensures))
+    says-seq-no date (a .s .now) (a .at) (afterDate (a .choices)) true (rw (c .enum-told2 .given .1) at (c .before .before .date-at .ensures))
 
 pub datetime-at-spec : {M : Type 1} → statement M
 datetime-at-spec =

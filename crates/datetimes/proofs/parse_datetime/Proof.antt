@@ -27,12 +27,18 @@ returns-4 c =
     let a = c .before .before .before .before .args in
     ap (ended (length (a .s .now))) (rw (c .enum-told2 .given .1) at (c .before .before .datetime-at .ensures) .found)
 
+returns-5 : tie.Need-returns-5
+returns-5 c =
+    let a = c .before .before .before .before .args in
+    ap (ended (length (a .s .now))) (rw (c .enum-told3 .given .1) at (c .before .before .datetime-at .ensures) .found)
+
 pub parse-datetime-spec : {M : Type 1} → statement M
 parse-datetime-spec =
     tie.close
     (tie.spec
-    (λ c κs. search needs) (λ c. search needs) (λ c. search needs) (λ c. search needs)
+    (λ c κs. search needs) (λ c. search needs) (λ c. search needs) (λ c. search needs) (λ c. search needs)
     returns
     returns-2
     returns-3
-    returns-4)
+    returns-4
+    returns-5)

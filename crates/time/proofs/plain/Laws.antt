@@ -3,17 +3,21 @@ use Prim.Native.Nat.{ℕ, _+_, _*_, _-_, _<_, _≤_}
 use mathlib.Core.List.{List}
 use mathlib.Core.Bool.{Bool, true, false}
 use mathlib.Core.Option.{some, none}
-use mathlib.Core.Path.{_≡_, refl, _∙_}
+use mathlib.Core.Path.{_≡_, refl, sym, _∙_}
 use native.Mathlib.Omega.{arith}
 use lib.ListN.{length, getD}
 use lib.Dec.{ltb, eqb}
-use borrow.Author.Tests.{ltb-false, lt-ltb, le-ltb, eqb-true}
+use borrow.Author.Tests.{ltb-false, lt-ltb, le-ltb, eqb-true, ne-eqb}
+use Rattle.types.specs.declared.Choices.{Choices}
+use Rattle.types.specs.declared.Edition.{Edition}
+use Rattle.types.specs.declared.Edition.the-variants.{E2004, E2019}
 use Rattle.types.specs.declared.Time.{Time}
 use Rattle.types.specs.declared.TimeOffset.the-variants.{Absent, Given}
 use Rattle.parser.specs.Reading.{no, got, Reader, lit, seq, opt, alt, or, Says}
 use Rattle.parser.specs.Digits.{isDigit, fraction, reach, lowest, highest}
 use Rattle.parser.specs.Fields.{hour, minute, second, either, precededBy, orZero}
 use Rattle.parser.proofs.Fields.{OtherAt}
+use Rattle.parser.proofs.Leaves.{field-definite, field-within, field-wider}
 use Rattle.parser.proofs.Says.{says-map, says-opt, says-seq-got, says-seq-no}
 use Rattle.looks.specs.Digits.{twoDigits}
 use Rattle.looks.specs.Clock.{plainClock, plainMillisecond}
@@ -27,7 +31,7 @@ use Rattle.looks.proofs.Two.{two-is, two-field, preceded-two, digit-no}
 use Rattle.looks.proofs.Thousandths.{three-end, three-other}
 use Rattle.offset.specs.Rules.{offset}
 use Rattle.offset.proofs.plain.Laws.{Starts, zulu, sign, end-says, plain-end, plain-read}
-use Rattle.time.specs.Rules.{Clock, clockOf, millisecond, secondMillisecond, minuteSecondMillisecond, orMidnight, timeOf, timeOffset, afterHour, baseTime, time}
+use Rattle.time.specs.Rules.{Clock, hourOf, endsDay, clockOf, millisecond, secondMillisecond, minuteSecondMillisecond, orMidnight, timeOf, timeOffset, afterHour, baseTime, time}
 use Rattle.time.specs.Plain.{timeWith, withOffset, plainTime, firstPlain}
 use Rattle.time.specs.declared.plain.PlainTime.{PlainTime}
 use Rattle.time.specs.declared.plain.PlainTime.the-variants as time
@@ -86,7 +90,7 @@ module _ (s : List ℕ) (at mi se : ℕ) where
   no-point more (byte l (sign true e)) = let i = lt-ltb at (length s) l in record { found = simp (i, e); more = simp (i, e) }
   no-point more (byte l (sign false e)) = let i = lt-ltb at (length s) l in record { found = simp (i, e); more = simp (i, e) }
 
-  none-says : (more : Bool) → Behind s at more → Says (millisecond mi se) s at (got (clockWith mi se 0) at) more
+  none-says : (more : Bool) → Behind s at more → Says (millisecond false mi se) s at (got (clockWith mi se 0) at) more
   unfolding millisecond
   none-says more b = says-map (opt point) s at (clockOf mi se) _ more (says-opt point s at no more (says-seq-no (either 44 46) s at (λ _. fraction) more (no-point more b)))
 
@@ -136,7 +140,7 @@ module _ (s : List ℕ) (at mi se : ℕ) where
       by-end more (end l) = rw (p, q, r) at (three-end s (at + 1) (omega (arith, x .long)) (x .first) (rw (p, q) (x .rest)) (omega (arith, l)))
       by-end more (byte l e) = rw (p, q, r) at (three-other s (at + 1) (omega (arith, x .long)) (x .first) (rw (p, q) (x .rest)) (rw r (other l e)))
 
-  some-says : (ms : ℕ) → Point ms → (more : Bool) → Behind s (at + 4) more → Says (millisecond mi se) s at (got (clockWith mi se (ms * 1000000)) (at + 4)) more
+  some-says : (ms : ℕ) → Point ms → (more : Bool) → Behind s (at + 4) more → Says (millisecond false mi se) s at (got (clockWith mi se (ms * 1000000)) (at + 4)) more
   unfolding millisecond
   some-says ms x more b =
       says-map (opt point) s at (clockOf mi se) _ more
@@ -191,6 +195,15 @@ module _ (s : List ℕ) (at h m x : ℕ) where
     hour-says : Says hour s at (got h (at + 2)) false
     hour-says = rw (y .hour) at (two-field s at 0 23 (omega (arith, y .long)) (y .hours))
 
+    -- an hour of both editions, which ends no day
+    hour-of : (e : Edition) → Says (hourOf e) s at (got h (at + 2)) false
+    hour-of E2019 = hour-says
+    hour-of E2004 = let i = field-wider 2 0 23 0 24 s at h (at + 2) (omega arith) (omega arith) (sym (hour-says .found)) in record { found = sym i; more = sym (field-definite 2 0 24 s at h (at + 2) i) }
+
+    no-end : (e : Edition) → endsDay e h ≡ false
+    no-end E2019 = refl
+    no-end E2004 = ne-eqb h 24 (λ i. let r = field-within 2 0 23 s at h (at + 2) (sym (hour-says .found)) in omega (arith, r .1))
+
     minute-says : Says (precededBy 58 minute) s (at + 2) (got m (at + 5)) false
     unfolding reach lowest highest
     minute-says =
@@ -207,16 +220,17 @@ module _ (s : List ℕ) (at h m x : ℕ) where
         let r : at + 5 + 3 ≡ at + 8 = omega arith in
         rw (p, q, r, y .last) at (preceded-two s (at + 5) 58 0 60 (omega (arith, y .long)) (y .second) refl (rw (p, q) (y .seconds)))
 
-    base-says : (n place : ℕ) (t : Time) (next : ℕ) (more : Bool) → Says (millisecond m x) s (at + 8) (got (clockWith m x n) place) more → Tail s place h m x n t next more → Says baseTime s at (got t next) more
+    base-says : (c : Choices) (n place : ℕ) (t : Time) (next : ℕ) (more : Bool) → Says (millisecond false m x) s (at + 8) (got (clockWith m x n) place) more → Tail s place h m x n t next more → Says (baseTime c) s at (got t next) more
     unfolding baseTime afterHour minuteSecondMillisecond secondMillisecond
-    base-says n place t next more f b =
+    base-says c n place t next more f b =
         rw (or-same more) at
-        (says-seq-got hour s at afterHour h (at + 2) false _ (or more more) hour-says
-        (says-seq-got (opt minuteSecondMillisecond) s (at + 2) (λ c. timeOffset h (orMidnight c)) (some (clockWith m x n)) place more _ more
-        (says-opt minuteSecondMillisecond s (at + 2) _ more
-        (says-seq-got (precededBy 58 minute) s (at + 2) secondMillisecond m (at + 5) false _ more minute-says
-        (says-seq-got (opt (precededBy 58 second)) s (at + 5) (λ se. millisecond m (orZero se)) (some x) (at + 8) false _ more (says-opt (precededBy 58 second) s (at + 5) _ false second-says) f)))
-        (b .says)))
+        (says-seq-got (hourOf (c .edition)) s at (λ h. afterHour (endsDay (c .edition) h) h) h (at + 2) false (got t next) (or more more) (hour-of (c .edition))
+        (rw (no-end (c .edition))
+        (says-seq-got (opt (minuteSecondMillisecond false)) s (at + 2) (λ c. timeOffset h (orMidnight c)) (some (clockWith m x n)) place more (got t next) more
+        (says-opt (minuteSecondMillisecond false) s (at + 2) (got (clockWith m x n) place) more
+        (says-seq-got (precededBy 58 minute) s (at + 2) (secondMillisecond false) m (at + 5) false (got (clockWith m x n) place) more minute-says
+        (says-seq-got (opt (precededBy 58 second)) s (at + 5) (λ se. millisecond false m (orZero se)) (some x) (at + 8) false _ more (says-opt (precededBy 58 second) s (at + 5) _ false second-says) f)))
+        (b .says))))
 
 -- ---- together
 
@@ -224,16 +238,16 @@ module _ (s : List ℕ) (at h m x : ℕ) where
 abbrev pub plainAt : List ℕ → ℕ → PlainTime
 plainAt s at = firstPlain (plainTime s (at + 12) (plainClock s at) (plainMillisecond s (at + 8))) (plainTime s (at + 8) (plainClock s at) 0)
 
-pub record Read (s : List ℕ) (at : ℕ) (t : Time) (next : ℕ) (more : Bool) : Type 0 where
+pub record Read (c : Choices) (s : List ℕ) (at : ℕ) (t : Time) (next : ℕ) (more : Bool) : Type 0 where
   pub inside : at < length s
   pub digit : isDigit (getD s at 0) ≡ true
-  pub says : Says baseTime s at (got t next) more
+  pub says : Says (baseTime c) s at (got t next) more
 
-module _ (s : List ℕ) (at : ℕ) (t : Time) (next : ℕ) (more : Bool) where
-  read : (h m x : ℕ) → Hands s at h m x → Says baseTime s at (got t next) more → Read s at t next more
+module _ (c : Choices) (s : List ℕ) (at : ℕ) (t : Time) (next : ℕ) (more : Bool) where
+  read : (h m x : ℕ) → Hands s at h m x → Says (baseTime c) s at (got t next) more → Read c s at t next more
   read h m x y e = record { inside = omega (arith, y .long); digit = two-is (getD s at 0) (getD s (at + 1) 0) 0 23 (y .hours) .first; says = e }
 
-  exact : (h m x : ℕ) → Hands s at h m x → plainTime s (at + 12) (clock.Got h m x) (plainMillisecond s (at + 8)) ≡ time.Got t next more → Read s at t next more
+  exact : (h m x : ℕ) → Hands s at h m x → plainTime s (at + 12) (clock.Got h m x) (plainMillisecond s (at + 8)) ≡ time.Got t next more → Read c s at t next more
   unfolding plainTime
   exact h m x y e =
       let ms = plainMillisecond s (at + 8) in
@@ -241,29 +255,29 @@ module _ (s : List ℕ) (at : ℕ) (t : Time) (next : ℕ) (more : Bool) where
       let b = tail s (at + 12) h m x (ms * 1000000) t next more (a .1) in
       let p : at + 8 + 4 ≡ at + 12 = omega arith in
       let z = seen s (at + 8) m x ms refl (ltb-false 999 ms (a .0)) in
-      read h m x y (base-says s at h m x y (ms * 1000000) (at + 12) t next more (rw p at (some-says s (at + 8) m x ms z more (rw p (b .behind)))) b)
+      read h m x y (base-says s at h m x y c (ms * 1000000) (at + 12) t next more (rw p at (some-says s (at + 8) m x ms z more (rw p (b .behind)))) b)
 
-  even : (h m x : ℕ) → Hands s at h m x → plainTime s (at + 8) (clock.Got h m x) 0 ≡ time.Got t next more → Read s at t next more
+  even : (h m x : ℕ) → Hands s at h m x → plainTime s (at + 8) (clock.Got h m x) 0 ≡ time.Got t next more → Read c s at t next more
   unfolding plainTime
   even h m x y e =
       let b = tail s (at + 8) h m x 0 t next more e in
-      read h m x y (base-says s at h m x y 0 (at + 8) t next more (none-says s (at + 8) m x more (b .behind)) b)
+      read h m x y (base-says s at h m x y c 0 (at + 8) t next more (none-says s (at + 8) m x more (b .behind)) b)
 
-  pub plain-base : plainAt s at ≡ time.Got t next more → Read s at t next more
+  pub plain-base : plainAt s at ≡ time.Got t next more → Read c s at t next more
   unfolding plainTime
   plain-base e = by-clock (plainClock s at) refl e
     where
-      by-first : (h m x : ℕ) → Hands s at h m x → (f : PlainTime) → plainTime s (at + 12) (clock.Got h m x) (plainMillisecond s (at + 8)) ≡ f → firstPlain f (plainTime s (at + 8) (clock.Got h m x) 0) ≡ time.Got t next more → Read s at t next more
+      by-first : (h m x : ℕ) → Hands s at h m x → (f : PlainTime) → plainTime s (at + 12) (clock.Got h m x) (plainMillisecond s (at + 8)) ≡ f → firstPlain f (plainTime s (at + 8) (clock.Got h m x) 0) ≡ time.Got t next more → Read c s at t next more
       by-first h m x y (time.Got u k l) i e = exact h m x y (i ∙ e)
       by-first h m x y time.Other i e = even h m x y e
 
-      by-clock : (c : PlainClock) → plainClock s at ≡ c → firstPlain (plainTime s (at + 12) c (plainMillisecond s (at + 8))) (plainTime s (at + 8) c 0) ≡ time.Got t next more → Read s at t next more
+      by-clock : (k : PlainClock) → plainClock s at ≡ k → firstPlain (plainTime s (at + 12) k (plainMillisecond s (at + 8))) (plainTime s (at + 8) k 0) ≡ time.Got t next more → Read c s at t next more
       by-clock (clock.Got h m x) i e = by-first h m x (hands s at h m x i) (plainTime s (at + 12) (clock.Got h m x) (plainMillisecond s (at + 8))) refl e
       by-clock clock.Other i e = absurd (no-time e)
 
 -- at the beginning: a digit is no `T`
-pub plain-says : (s : List ℕ) (t : Time) (next : ℕ) (more : Bool) → plainAt s 0 ≡ time.Got t next more → Says time s 0 (got t next) more
+pub plain-says : (c : Choices) (s : List ℕ) (t : Time) (next : ℕ) (more : Bool) → plainAt s 0 ≡ time.Got t next more → Says (time c) s 0 (got t next) more
 unfolding time
-plain-says s t next more e =
-    let r = plain-base s 0 t next more e in
-    says-seq-got (opt (lit 84)) s 0 (λ _. baseTime) none 0 false _ more (says-opt (lit 84) s 0 no false (digit-no s 0 84 (r .inside) (r .digit) refl)) (r .says)
+plain-says c s t next more e =
+    let r = plain-base c s 0 t next more e in
+    says-seq-got (opt (lit 84)) s 0 (λ _. baseTime c) none 0 false _ more (says-opt (lit 84) s 0 no false (digit-no s 0 84 (r .inside) (r .digit) refl)) (r .says)

@@ -16,7 +16,7 @@ returns : tie.Need-returns
 unfolding time
 returns c =
     let a = c .before .before .before .args in
-    says-past 84 baseTime base-time-eager (a .s .now) (a .at) _ _ _ (c .before .past .ensures) (c .base-time .ensures)
+    says-past 84 (baseTime (a .choices)) (base-time-eager (a .choices)) (a .s .now) (a .at) _ _ _ (c .before .past .ensures) (c .base-time .ensures)
 
 pub time-at-spec : {M : Type 1} → statement M
 time-at-spec = tie.close (tie.spec past-requires base-time-requires returns)

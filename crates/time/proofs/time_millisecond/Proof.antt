@@ -3,30 +3,37 @@ use Prim.Native.Nat.{ℕ}
 use mathlib.Core.List.{List}
 use mathlib.Core.Bool.{Bool, true, false}
 use mathlib.Core.Option.{Option, some, none}
-use mathlib.Core.Path.{_≡_, sym}
-use Rattle.parser.specs.Reading.{Reader, Says, SaysOn, no, got, seq, opt, or}
-use Rattle.parser.specs.Digits.{fraction}
+use mathlib.Core.Path.{_≡_, refl, sym, _∙_}
+use Rattle.parser.specs.Reading.{Found, Reader, Says, SaysOn, no, got, stop, seq, opt, mapFound, or}
 use Rattle.parser.specs.Fields.{either}
-use Rattle.parser.proofs.Places.{fraction-never-stops}
+use Rattle.parser.proofs.Places.{no≢got}
 use Rattle.parser.proofs.Says.{or-false, or-true, says-opt, says-seq-got, says-seq-no, says-on, on-map}
-use Rattle.time.specs.Rules.{clockOf, millisecond}
+use Rattle.time.specs.Rules.{fractionIf, clockOf, millisecond}
 use borrow.Author.Needs.{needs}
 use Rattle.time.proofs.time_millisecond.Statement.{statement}
 use Rattle.time.proofs.time_millisecond.Tie as tie
 
-abbrev tail : Reader ℕ
-tail = seq (either 44 46) (λ _. fraction)
+abbrev tail : Bool → Reader ℕ
+tail z = seq (either 44 46) (λ _. fractionIf z)
 
-module _ (mi se : ℕ) (s : List ℕ) (at : ℕ) (b m : Bool) where
-  made : (o : Option ℕ) (n : ℕ) (l : Bool) → Says (opt tail) s at (got o n) l → m ≡ or b l → SaysOn b (millisecond mi se) s at (got (clockOf mi se o) n) m
+module _ (z : Bool) (mi se : ℕ) (s : List ℕ) (at : ℕ) (b m : Bool) where
+  made : (f : Found (Option ℕ)) (l : Bool) → Says (opt (tail z)) s at f l → m ≡ or b l → SaysOn b (millisecond z mi se) s at (mapFound (clockOf mi se) f) m
   unfolding millisecond
-  made o n l h e = rw e (on-map b (opt tail) s at (clockOf mi se) (got o n) (or b l) (says-on (opt tail) s at (got o n) b l h))
+  made f l h e = rw e (on-map b (opt (tail z)) s at (clockOf mi se) f (or b l) (says-on (opt (tail z)) s at f b l h))
 
-  there : (v n : ℕ) (l : Bool) → Says tail s at (got v n) l → m ≡ or b l → SaysOn b (millisecond mi se) s at (got (clockOf mi se (some v)) n) m
-  there v n l h e = made (some v) n l (says-opt tail s at (got v n) l h) e
+  there : (v n : ℕ) (l : Bool) → Says (tail z) s at (got v n) l → m ≡ or b l → SaysOn b (millisecond z mi se) s at (got (clockOf mi se (some v)) n) m
+  there v n l h e = made (got (some v) n) l (says-opt (tail z) s at (got v n) l h) e
 
-  left-out : (l : Bool) → Says tail s at no l → m ≡ or b l → SaysOn b (millisecond mi se) s at (got (clockOf mi se none) at) m
-  left-out l h e = made none at l (says-opt tail s at no l h) e
+  left-out : (l : Bool) → Says (tail z) s at no l → m ≡ or b l → SaysOn b (millisecond z mi se) s at (got (clockOf mi se none) at) m
+  left-out l h e = made (got none at) l (says-opt (tail z) s at no l h) e
+
+  stopped : Says (tail z) s at (stop 1) false → m ≡ or b false → SaysOn b (millisecond z mi se) s at (stop 1) m
+  stopped h e = made (stop 1) false (says-opt (tail z) s at (stop 1) false h) e
+
+-- where a comma or point stands nothing was left open
+not-open : (b : Bool) {f : Found Unit} {n : ℕ} → (b ≡ true → f ≡ no) → got tt n ≡ f → false ≡ or b false
+not-open true h e = absurd (no≢got (sym (h refl) ∙ sym e))
+not-open false h e = refl
 
 one-of-requires : tie.Need-one-of-requires
 one-of-requires c κs = search needs
@@ -34,8 +41,8 @@ one-of-requires c κs = search needs
 enum-known-mark : tie.Need-enum-known-mark
 enum-known-mark c = search needs
 
-fraction-nanosecond-requires : tie.Need-fraction-nanosecond-requires
-fraction-nanosecond-requires c κs = search needs
+fraction-at-requires : tie.Need-fraction-at-requires
+fraction-at-requires c κs = search needs
 
 enum-known-fraction : tie.Need-enum-known-fraction
 enum-known-fraction c = search needs
@@ -74,37 +81,41 @@ returns : tie.Need-returns
 returns c =
     let a = c .before .before .before .before .before .before .before .before .before .before .args in
     let mark = rw (c .before .before .before .before .before .before .mark .given .1) at (c .before .before .before .before .before .before .before .before .one-of .ensures) in
-    let frac = rw (c .before .before .fraction .given .1) at (c .before .before .before .before .fraction-nanosecond .ensures) in
-    there (a .minute) (a .second) (a .s .now) (a .at) (a .more) _ _ _ _ (says-seq-got (either 44 46) (a .s .now) (a .at) (λ _. fraction) tt _ false _ _ mark frac) (c .either-open .ensures)
+    let frac = rw (c .before .before .fraction .given .1) at (c .before .before .before .before .fraction-at .ensures) in
+    there (a .zero) (a .minute) (a .second) (a .s .now) (a .at) (a .more) _ _ _ _ (says-seq-got (either 44 46) (a .s .now) (a .at) (λ _. fractionIf (a .zero)) tt _ false _ _ mark frac) (c .either-open .ensures)
 
 returns-2 : tie.Need-returns-2
-returns-2 c = absurd (fraction-never-stops _ _ _ (sym (rw (c .enum-told .given .1) at (c .before .before .fraction-nanosecond .ensures) .found)))
+returns-2 c =
+    let a = c .before .before .before .before .before .before .before .before .args in
+    let mark = rw (c .before .before .before .before .mark .given .1) at (c .before .before .before .before .before .before .one-of .ensures) in
+    let frac = rw (c .enum-told .given .1) at (c .before .before .fraction-at .ensures) in
+    stopped (a .zero) (a .minute) (a .second) (a .s .now) (a .at) (a .more) _ (says-seq-got (either 44 46) (a .s .now) (a .at) (λ _. fractionIf (a .zero)) tt _ false _ _ mark frac) (not-open (a .more) (c .before .before .before .before .before .before .before .before .pre) (mark .found))
 
 returns-3 : tie.Need-returns-3
 returns-3 c =
     let a = c .before .before .before .before .before .before .before .before .before .args in
     let mark = rw (c .before .before .before .before .before .mark .given .1) at (c .before .before .before .before .before .before .before .one-of .ensures) in
-    let frac = rw (c .before .enum-told2 .given .1) at (c .before .before .before .fraction-nanosecond .ensures) in
-    rw (c .no-fraction .ensures .0, c .no-fraction .ensures .1) (left-out (a .minute) (a .second) (a .s .now) (a .at) (a .more) _ false (says-seq-got (either 44 46) (a .s .now) (a .at) (λ _. fraction) tt _ false _ _ mark frac) (sym (or-false (a .more))))
+    let frac = rw (c .before .enum-told2 .given .1) at (c .before .before .before .fraction-at .ensures) in
+    rw (c .no-fraction .ensures .0, c .no-fraction .ensures .1) (left-out (a .zero) (a .minute) (a .second) (a .s .now) (a .at) (a .more) _ false (says-seq-got (either 44 46) (a .s .now) (a .at) (λ _. fractionIf (a .zero)) tt _ false _ _ mark frac) (sym (or-false (a .more))))
 
 returns-4 : tie.Need-returns-4
 returns-4 c =
     let a = c .before .before .before .before .before .before .before .before .before .args in
     let mark = rw (c .before .before .before .before .before .mark .given .1) at (c .before .before .before .before .before .before .before .one-of .ensures) in
-    let frac = rw (c .before .enum-told3 .given .1) at (c .before .before .before .fraction-nanosecond .ensures) in
-    rw (c .no-fraction2 .ensures .0, c .no-fraction2 .ensures .1) (left-out (a .minute) (a .second) (a .s .now) (a .at) (a .more) _ true (says-seq-got (either 44 46) (a .s .now) (a .at) (λ _. fraction) tt _ false _ _ mark frac) (sym (or-true (a .more))))
+    let frac = rw (c .before .enum-told3 .given .1) at (c .before .before .before .fraction-at .ensures) in
+    rw (c .no-fraction2 .ensures .0, c .no-fraction2 .ensures .1) (left-out (a .zero) (a .minute) (a .second) (a .s .now) (a .at) (a .more) _ true (says-seq-got (either 44 46) (a .s .now) (a .at) (λ _. fractionIf (a .zero)) tt _ false _ _ mark frac) (sym (or-true (a .more))))
 
 returns-5 : tie.Need-returns-5
 returns-5 c =
     let a = c .before .before .before .before .before .args in
     let mark = rw (c .before .enum-told4 .given .1) at (c .before .before .before .one-of .ensures) in
-    rw (c .no-fraction3 .ensures .0, c .no-fraction3 .ensures .1) (left-out (a .minute) (a .second) (a .s .now) (a .at) (a .more) _ false (says-seq-no (either 44 46) (a .s .now) (a .at) (λ _. fraction) false mark) (sym (or-false (a .more))))
+    rw (c .no-fraction3 .ensures .0, c .no-fraction3 .ensures .1) (left-out (a .zero) (a .minute) (a .second) (a .s .now) (a .at) (a .more) _ false (says-seq-no (either 44 46) (a .s .now) (a .at) (λ _. fractionIf (a .zero)) false mark) (sym (or-false (a .more))))
 
 returns-6 : tie.Need-returns-6
 returns-6 c =
     let a = c .before .before .before .before .before .args in
     let mark = rw (c .before .enum-told5 .given .1) at (c .before .before .before .one-of .ensures) in
-    rw (c .no-fraction4 .ensures .0, c .no-fraction4 .ensures .1) (left-out (a .minute) (a .second) (a .s .now) (a .at) (a .more) _ true (says-seq-no (either 44 46) (a .s .now) (a .at) (λ _. fraction) true mark) (sym (or-true (a .more))))
+    rw (c .no-fraction4 .ensures .0, c .no-fraction4 .ensures .1) (left-out (a .zero) (a .minute) (a .second) (a .s .now) (a .at) (a .more) _ true (says-seq-no (either 44 46) (a .s .now) (a .at) (λ _. fractionIf (a .zero)) true mark) (sym (or-true (a .more))))
 
 pub time-millisecond-spec : {M : Type 1} → statement M
 time-millisecond-spec =
@@ -112,7 +123,7 @@ time-millisecond-spec =
     (tie.spec
     one-of-requires
     enum-known-mark
-    fraction-nanosecond-requires
+    fraction-at-requires
     enum-known-fraction
     either-open-requires
     enum-told

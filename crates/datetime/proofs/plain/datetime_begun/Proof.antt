@@ -20,6 +20,9 @@ datetime-at-requires c κs = search needs
 enum-known-found : tie.Need-enum-known-found
 enum-known-found c = search needs
 
+enum-known-found-2 : tie.Need-enum-known-found-2
+enum-known-found-2 c = search needs
+
 enum-told-2 : tie.Need-enum-told-2
 enum-told-2 c = search needs
 
@@ -31,7 +34,7 @@ returns c =
     let x1 = c .before in
     let x2 = x1 .before .before in
     let x3 = x2 .before .before in
-    stamp-says (x3 .args .s .now) _ _ _ (sym (rw (x1 .plain .given .1) at (x2 .plain-stamp .ensures)))
+    stamp-says (x3 .args .choices) (x3 .args .s .now) _ _ _ (sym (rw (x1 .plain .given .1) at (x2 .plain-stamp .ensures)))
 
 returns-2 : tie.Need-returns-2
 returns-2 c =
@@ -41,11 +44,17 @@ returns-2 c =
 
 returns-3 : tie.Need-returns-3
 returns-3 c =
-    let x1 = c .before .before in
-    rw (c .enum-told2 .given .1) at (x1 .datetime-at .ensures)
+    let x1 = c .before in
+    let x2 = x1 .before .before in
+    rw (x1 .found2 .given .1) at (x2 .datetime-at .ensures)
 
 returns-4 : tie.Need-returns-4
 returns-4 c =
+    let x1 = c .before .before in
+    rw (c .enum-told2 .given .1) at (x1 .datetime-at .ensures)
+
+returns-5 : tie.Need-returns-5
+returns-5 c =
     let x1 = c .before .before in
     rw (c .enum-told3 .given .1) at (x1 .datetime-at .ensures)
 
@@ -58,9 +67,11 @@ datetime-begun-spec =
     enum-told
     datetime-at-requires
     enum-known-found
+    enum-known-found-2
     enum-told-2
     enum-told-3
     returns
     returns-2
     returns-3
-    returns-4)
+    returns-4
+    returns-5)

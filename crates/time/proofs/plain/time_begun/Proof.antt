@@ -38,6 +38,9 @@ enum-told-2 c = search needs
 enum-told-3 : tie.Need-enum-told-3
 enum-told-3 c = search needs
 
+enum-told-4 : tie.Need-enum-told-4
+enum-told-4 c = search needs
+
 returns : tie.Need-returns
 returns c =
     let x1 = c .before in
@@ -48,7 +51,7 @@ returns c =
     let x6 = x5 .before in
     let x7 = x6 .before .before in
     let e = rw (x1 .plain .given .1, x4 .plain-time .ensures, x3 .plain-time2 .ensures, x5 .plain-millisecond .ensures, x6 .plain-clock .ensures) at (x2 .first-plain .ensures) in
-    plain-says (x7 .args .s .now) _ _ _ (sym e)
+    plain-says (x7 .args .choices) (x7 .args .s .now) _ _ _ (sym e)
 
 returns-2 : tie.Need-returns-2
 returns-2 c =
@@ -66,6 +69,11 @@ returns-4 c =
     let x1 = c .before .before in
     rw (c .enum-told3 .given .1) at (x1 .time-at .ensures)
 
+returns-5 : tie.Need-returns-5
+returns-5 c =
+    let x1 = c .before .before in
+    rw (c .enum-told4 .given .1) at (x1 .time-at .ensures)
+
 pub time-begun-spec : {M : Type 1} → statement M
 time-begun-spec =
     tie.close
@@ -81,7 +89,9 @@ time-begun-spec =
     enum-known-found
     enum-told-2
     enum-told-3
+    enum-told-4
     returns
     returns-2
     returns-3
-    returns-4)
+    returns-4
+    returns-5)
