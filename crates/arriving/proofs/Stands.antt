@@ -31,9 +31,9 @@ zerosOf st = dropsZeros (st .kind)
 
 rule-trims : (k : Kind) → Trims (family (dropsZeros k)) 79 (ruleOf k)
 rule-trims kind.Date = trims kind.Date
-rule-trims kind.Time = trims kind.Time
+rule-trims (kind.Time c) = trims (kind.Time c)
 rule-trims kind.Offset = trims kind.Offset
-rule-trims kind.Stamp = trims kind.Stamp
+rule-trims (kind.Stamp c) = trims (kind.Stamp c)
 rule-trims kind.Duration = trims kind.Duration
 
 pub record Stands (st : State) (s : List ℕ) : Type 0 where

@@ -16,7 +16,7 @@ use Rattle.parser.proofs.Fields.{true≢false, and-first, and-second}
 use Rattle.parser.proofs.Runs.{run-end}
 use Rattle.shortening.specs.Points.{isPoint}
 use Rattle.shortening.proofs.Trims.{zeros, fractions, allDigits, fresh, Normal}
-use Rattle.shortening.proofs.Fractions.{point-no-digit}
+use Rattle.shortening.proofs.Fields.{point-no-digit}
 use Rattle.arriving.specs.Keeping.{nextMark}
 
 -- the mark behind some bytes, and whether no digit among them could be joined to the one before it

@@ -21,9 +21,9 @@ use Rattle.arriving.specs.declared.Stepped.{Stepped}
 -- what is dropped: the leading zeros of a duration's runs; elsewhere the fraction's digits past the tenth
 abbrev pub dropsZeros : Kind → Bool
 dropsZeros kind.Date = false
-dropsZeros kind.Time = false
+dropsZeros (kind.Time c) = false
 dropsZeros kind.Offset = false
-dropsZeros kind.Stamp = false
+dropsZeros (kind.Stamp c) = false
 dropsZeros kind.Duration = true
 
 -- What the kept bytes end in. Where zeros are dropped: 1, no digit (or nothing at all); 11, a 0 behind no digit; 0, any other digit.

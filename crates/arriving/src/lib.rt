@@ -44,9 +44,9 @@ fn drops_zeros(kind: Kind) -> bool
 {
     match kind {
         Kind::Date => false,
-        Kind::Time => false,
+        Kind::Time(_) => false,
         Kind::Offset => false,
-        Kind::Stamp => false,
+        Kind::Stamp(_) => false,
         Kind::Duration => true,
     }
 }

@@ -11,6 +11,7 @@ use Rattle.kinds.specs.declared.answer.Kind.{Kind}
 use Rattle.kinds.specs.declared.answer.Letter.{Letter}
 use Rattle.kinds.specs.declared.answer.Letter.the-variants.{Names, Unknown}
 use Rattle.kinds.specs.declared.answer.Read.{Read}
+use Rattle.types.specs.Editions.{document01}
 use Rattle.kinds.specs.Kinds.{letterOf, told}
 use Rattle.arriving.specs.declared.State.{State}
 use Rattle.arriving.specs.Keeping.{stepped, Answers}
@@ -25,10 +26,10 @@ greatest-more k s n = rw (add-one n) refl
 
 -- ---- the kind that a letter names
 
-pub lettered-names : (f : Kind → List ℕ → ℕ) (letter : ℕ) (s : List ℕ) (l : Letter) (k : Kind) (n : ℕ) → l ≡ letterOf letter → l ≡ Names k → n ≡ f k s → n ≡ lettered f letter s
+pub lettered-names : (f : Kind → List ℕ → ℕ) (letter : ℕ) (s : List ℕ) (l : Letter) (k : Kind) (n : ℕ) → l ≡ letterOf document01 letter → l ≡ Names k → n ≡ f k s → n ≡ lettered f letter s
 lettered-names f letter s l k n e g h = rw (← e, g) h
 
-pub lettered-unknown : (f : Kind → List ℕ → ℕ) (letter : ℕ) (s : List ℕ) (l : Letter) → l ≡ letterOf letter → l ≡ Unknown → 0 ≡ lettered f letter s
+pub lettered-unknown : (f : Kind → List ℕ → ℕ) (letter : ℕ) (s : List ℕ) (l : Letter) → l ≡ letterOf document01 letter → l ≡ Unknown → 0 ≡ lettered f letter s
 lettered-unknown f letter s l e g = rw (← e, g) refl
 
 -- ---- a state that stands for some bytes of a kind

@@ -6,6 +6,7 @@ use Rattle.parser.specs.Answer.{begun}
 use Rattle.kinds.specs.declared.answer.Kind.{Kind}
 use Rattle.kinds.specs.declared.answer.Letter.{Letter}
 use Rattle.kinds.specs.declared.answer.Letter.the-variants.{Names, Unknown}
+use Rattle.types.specs.Editions.{document01}
 use Rattle.kinds.specs.Kinds.{ruleOf, letterOf}
 use Rattle.arriving.specs.Pieces.{accept}
 
@@ -32,4 +33,4 @@ named f (Names k) s = f k s
 named f Unknown s = 0
 
 abbrev pub lettered : (Kind → List ℕ → ℕ) → ℕ → List ℕ → ℕ
-lettered f letter s = named f (letterOf letter) s
+lettered f letter s = named f (letterOf document01 letter) s

@@ -5,6 +5,7 @@ ghost use mathlib.Core.Path.{_≡_};
 ghost use Rattle.beginnings.specs.Beginnings.{countOf, countAccepted, greatestCount, lettered};
 use kinds::answer::Kind;
 use kinds::answer::Letter;
+use types::Choices;
 
 fn greater(a: usize, b: usize) -> usize
     ensures { λ r. ⌜ r ≡ max a b ⌝ }
@@ -74,7 +75,7 @@ fn afresh(kind: Kind, s: &[u8]) -> usize
 pub extern "C" fn tirozhbar_one_piece(letter: u8, s: &[u8]) -> usize
     ensures { λ r. ⌜ r ≡ lettered countAccepted letter (now (s .entry)) ⌝ }
 {
-    match kinds::kind_of(letter) {
+    match kinds::kind_of(letter, Choices::DOCUMENT_01) {
         Letter::Names(kind) => one_piece(kind, s),
         Letter::Unknown => 0,
     }
@@ -85,7 +86,7 @@ pub extern "C" fn tirozhbar_one_piece(letter: u8, s: &[u8]) -> usize
 pub extern "C" fn tirozhbar_at_once(letter: u8, s: &[u8]) -> usize
     ensures { λ r. ⌜ r ≡ lettered countOf letter (now (s .entry)) ⌝ }
 {
-    match kinds::kind_of(letter) {
+    match kinds::kind_of(letter, Choices::DOCUMENT_01) {
         Letter::Names(kind) => at_once(kind, s),
         Letter::Unknown => 0,
     }
@@ -96,7 +97,7 @@ pub extern "C" fn tirozhbar_at_once(letter: u8, s: &[u8]) -> usize
 pub extern "C" fn tirozhbar_byte_by_byte(letter: u8, s: &[u8]) -> usize
     ensures { λ r. ⌜ r ≡ lettered greatestCount letter (now (s .entry)) ⌝ }
 {
-    match kinds::kind_of(letter) {
+    match kinds::kind_of(letter, Choices::DOCUMENT_01) {
         Letter::Names(kind) => byte_by_byte(kind, s),
         Letter::Unknown => 0,
     }
@@ -107,7 +108,7 @@ pub extern "C" fn tirozhbar_byte_by_byte(letter: u8, s: &[u8]) -> usize
 pub extern "C" fn tirozhbar_afresh(letter: u8, s: &[u8]) -> usize
     ensures { λ r. ⌜ r ≡ lettered greatestCount letter (now (s .entry)) ⌝ }
 {
-    match kinds::kind_of(letter) {
+    match kinds::kind_of(letter, Choices::DOCUMENT_01) {
         Letter::Names(kind) => afresh(kind, s),
         Letter::Unknown => 0,
     }

@@ -1,8 +1,9 @@
--- Document 01's "Cases to prove", row by row: the reader, the bytes, and what it tells of them.
+-- Document 01's "Cases to prove", row by row: the reader, under document 01's choices, the bytes, and what it tells of them.
 use Prim.Native.Nat.{ℕ}
 use mathlib.Core.List.{List, [], _∷_}
 use mathlib.Core.Option.{Option, some, none}
 use lib.IntN.{ℤ, pos, negℤ}
+use Rattle.types.specs.Editions.{document01}
 use Rattle.types.specs.declared.Verdict.{Verdict}
 use Rattle.types.specs.declared.Verdict.the-variants.{Settled, Open}
 use Rattle.types.specs.declared.Date.the-variants.{YMD, Week, Ordinal}
@@ -58,11 +59,11 @@ table =
     -- 2015114
     begins kind.Date (50 ∷ 48 ∷ 49 ∷ 53 ∷ 49 ∷ 49 ∷ 52 ∷ []) (recorded (record-of.Date (Ordinal (pos 2015) 114)) 7) Settled ∷
     -- 21:56:42.1234567891
-    begins kind.Time (50 ∷ 49 ∷ 58 ∷ 53 ∷ 54 ∷ 58 ∷ 52 ∷ 50 ∷ 46 ∷ 49 ∷ 50 ∷ 51 ∷ 52 ∷ 53 ∷ 54 ∷ 55 ∷ 56 ∷ 57 ∷ 49 ∷ []) (recorded (record-of.Time (clock 21 56 42 123456789)) 19) Open ∷
+    begins (kind.Time document01) (50 ∷ 49 ∷ 58 ∷ 53 ∷ 54 ∷ 58 ∷ 52 ∷ 50 ∷ 46 ∷ 49 ∷ 50 ∷ 51 ∷ 52 ∷ 53 ∷ 54 ∷ 55 ∷ 56 ∷ 57 ∷ 49 ∷ []) (recorded (record-of.Time (clock 21 56 42 123456789)) 19) Open ∷
     -- 24:00
-    begins kind.Time (50 ∷ 52 ∷ 58 ∷ 48 ∷ 48 ∷ []) (refused 1 0) Settled ∷
+    begins (kind.Time document01) (50 ∷ 52 ∷ 58 ∷ 48 ∷ 48 ∷ []) (refused 1 0) Settled ∷
     -- 2015-11-02T21:56:4
-    begins kind.Stamp (50 ∷ 48 ∷ 49 ∷ 53 ∷ 45 ∷ 49 ∷ 49 ∷ 45 ∷ 48 ∷ 50 ∷ 84 ∷ 50 ∷ 49 ∷ 58 ∷ 53 ∷ 54 ∷ 58 ∷ 52 ∷ []) (recorded (record-of.Stamp (record { date = YMD (pos 2015) 11 2; time = clock 21 56 0 0 })) 16) Open ∷
+    begins (kind.Stamp document01) (50 ∷ 48 ∷ 49 ∷ 53 ∷ 45 ∷ 49 ∷ 49 ∷ 45 ∷ 48 ∷ 50 ∷ 84 ∷ 50 ∷ 49 ∷ 58 ∷ 53 ∷ 54 ∷ 58 ∷ 52 ∷ []) (recorded (record-of.Stamp (record { date = YMD (pos 2015) 11 2; time = clock 21 56 0 0 })) 16) Open ∷
     -- P4294967295S
     begins kind.Duration (80 ∷ 52 ∷ 50 ∷ 57 ∷ 52 ∷ 57 ∷ 54 ∷ 55 ∷ 50 ∷ 57 ∷ 53 ∷ 83 ∷ []) (recorded (record-of.Duration (seconds 4294967295)) 12) Settled ∷
     -- P4294967296S

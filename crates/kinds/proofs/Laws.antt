@@ -11,10 +11,10 @@ use Rattle.parser.specs.Reading.{Found, Says}
 use Rattle.parser.specs.Answer.{begun, recorded, verdictOf, Judged, Begins, Ended}
 use Rattle.parser.proofs.Stable.{Stable}
 use Rattle.parser.proofs.Places.{Bounded, Fails}
-use Rattle.parser.proofs.Hopeful.{Anything, Hopeful}
-use Rattle.parser.proofs.Lawful.{Lawful, lawful-begins, widen, map-item}
+use Rattle.parser.proofs.Hopeful.{Anything, HopefulOr, hopeful-weaken, never-stops}
+use Rattle.parser.proofs.Lawful.{LawfulOr, lawful-begins, widen, map-item}
 use Rattle.date.proofs.Laws.{date-item}
-use Rattle.time.proofs.Laws.{time-item}
+use Rattle.time.proofs.Laws.{MayStop, time-item}
 use Rattle.offset.proofs.Laws.{offset-item}
 use Rattle.datetime.proofs.Laws.{datetime-item}
 use Rattle.duration.proofs.Laws.{duration-item}
@@ -27,39 +27,47 @@ use Rattle.kinds.specs.Kinds.{ruleOf, bound}
 abbrev pub bytes : List ℕ
 bytes = 43 ∷ 45 ∷ 87 ∷ 84 ∷ 58 ∷ 44 ∷ 46 ∷ 90 ∷ 80 ∷ 89 ∷ 77 ∷ 68 ∷ 72 ∷ 83 ∷ []
 
+-- whether a completion may stop the reading: behind an hour that ends the day
+abbrev pub MayStopOf : Kind → Type 0
+MayStopOf kind.Date = ⊥
+MayStopOf (kind.Time c) = MayStop (c .edition)
+MayStopOf kind.Offset = ⊥
+MayStopOf (kind.Stamp c) = MayStop (c .edition)
+MayStopOf kind.Duration = ⊥
+
 -- stable, within the input, deaf to every other byte, and hopeful with its bound
-pub lawful : (k : Kind) → Lawful bytes (bound k) Anything (ruleOf k)
+pub lawful : (k : Kind) → LawfulOr (MayStopOf k) bytes (bound k) Anything (ruleOf k)
 lawful kind.Date = widen refl (map-item _ date-item) .lawful
-lawful kind.Time = widen refl (map-item _ time-item) .lawful
+lawful (kind.Time c) = widen refl (map-item _ (time-item c)) .lawful
 lawful kind.Offset = widen refl (map-item _ offset-item) .lawful
-lawful kind.Stamp = widen refl (map-item _ datetime-item) .lawful
+lawful (kind.Stamp c) = widen refl (map-item _ (datetime-item c)) .lawful
 lawful kind.Duration = widen refl (map-item _ duration-item) .lawful
 
 -- past the end nothing is found
 pub fails : (k : Kind) → Fails (ruleOf k)
 fails kind.Date = map-item _ date-item .fails
-fails kind.Time = map-item _ time-item .fails
+fails (kind.Time c) = map-item _ (time-item c) .fails
 fails kind.Offset = map-item _ offset-item .fails
-fails kind.Stamp = map-item _ datetime-item .fails
+fails (kind.Stamp c) = map-item _ (datetime-item c) .fails
 fails kind.Duration = map-item _ duration-item .fails
 
 -- where no byte more could matter, every longer input reads the same
 pub stable : (k : Kind) → Stable (ruleOf k)
-stable k = lawful k .stable
+stable k = lawful k .steady .stable
 
 -- what is found ends within the input
 pub bounded : (k : Kind) → Bounded (ruleOf k)
-bounded k = lawful k .bounded
+bounded k = lawful k .steady .bounded
 
--- where a byte more could matter, so many bytes, or fewer, are read to the last one
-pub hopeful : (k : Kind) → Hopeful (bound k) Anything (ruleOf k)
+-- where a byte more could matter, so many bytes, or fewer, are read to the last one, or stop the reading
+pub hopeful : (k : Kind) → HopefulOr (MayStopOf k) (bound k) Anything (ruleOf k)
 hopeful k = lawful k .hopeful
 
 -- so what code says of a kind's rule at the beginning is what its beginning reader has to promise
 pub says : (k : Kind) (s : List ℕ) (f : Found Record) (m : Bool) → Says (ruleOf k) s 0 f m → Begins (bound k) (ruleOf k) s (begun f) (verdictOf m)
 says k = lawful-begins (lawful k)
 
--- ---- an open text has a completion that the whole reader accepts
+-- ---- where no completion may stop the reading, an open text has one that the whole reader accepts
 
 pub record Completed (k : Kind) (s : List ℕ) : Type 0 where
   pub more : List ℕ
@@ -67,12 +75,12 @@ pub record Completed (k : Kind) (s : List ℕ) : Type 0 where
   pub few : length more ≤ bound k
   pub accepted : Ended (ruleOf k) (s ++ more) (recorded value (length (s ++ more)))
 
-pub open-completed : (k : Kind) (s : List ℕ) → Judged (bound k) (ruleOf k) s Open → Completed k s
-open-completed k s other = go (ruleOf k .more s 0) refl
+pub open-completed : (k : Kind) → (MayStopOf k → ⊥) → (s : List ℕ) → Judged (bound k) (ruleOf k) s Open → Completed k s
+open-completed k never s other = go (ruleOf k .more s 0) refl
   where
     go : (m : Bool) → ruleOf k .more s 0 ≡ m → Completed k s
     go true h =
-        let e = hopeful k s 0 (omega arith) h in
+        let e = never-stops (hopeful-weaken (bound k) Anything (ruleOf k) never (omega arith) (λ a f. f) (hopeful k)) s 0 (omega arith) h in
         let all = length (s ++ e .first ∷ e .rest) in
         record { more = e .first ∷ e .rest; value = e .value; few = e .few; accepted = rw (e .reads, le-ltb all all (omega arith)) }
     go false h = absurd (other .1 .1 (rw (stable k s (other .0) 0 h .reads)))

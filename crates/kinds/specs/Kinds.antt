@@ -1,9 +1,11 @@
--- The rule of each kind, as a reader of records of any kind, and what the code's answers tell.
+-- The rule of each kind, under the choices that it is named with, as a reader of records of any kind, and what the code's answers tell.
 use Prim.Native.Nat.{ℕ}
 use mathlib.Core.List.{List}
 use mathlib.Core.Option.{Option, some, none}
 use lib.Dec.{eqb}
 use Rattle.types.specs.Numbers.{numberOf}
+use Rattle.types.specs.Editions.{document01}
+use Rattle.types.specs.declared.Choices.{Choices}
 use Rattle.parser.specs.Reading.{Reader, map, pick}
 use Rattle.parser.specs.Answer.{Told, recorded, refused, Begins, Ended}
 use Rattle.date.specs.Rules.{date}
@@ -23,25 +25,33 @@ use Rattle.kinds.specs.declared.answer.Letter.the-variants.{Names, Unkno
 
 abbrev pub ruleOf : Kind → Reader Record
 ruleOf kind.Date = map record-of.Date date
-ruleOf kind.Time = map record-of.Time time
+ruleOf (kind.Time c) = map record-of.Time (time c)
 ruleOf kind.Offset = map record-of.Offset offset
-ruleOf kind.Stamp = map record-of.Stamp dateTime
+ruleOf (kind.Stamp c) = map record-of.Stamp (dateTime c)
 ruleOf kind.Duration = map record-of.Duration duration
+
+-- what a kind was named with; document 01's choices where its rule has none
+abbrev pub choicesIn : Kind → Choices
+choicesIn kind.Date = document01
+choicesIn (kind.Time c) = c
+choicesIn kind.Offset = document01
+choicesIn (kind.Stamp c) = c
+choicesIn kind.Duration = document01
 
 -- so many bytes, or fewer, change the answer where it is open
 abbrev pub bound : Kind → ℕ
 bound kind.Date = 7
-bound kind.Time = 3
+bound (kind.Time c) = 3
 bound kind.Offset = 3
-bound kind.Stamp = 10
+bound (kind.Stamp c) = 10
 bound kind.Duration = 3
 
 -- "a letter `d`, `t`, `o`, `s` or `p` (date, time, offset, date-time, duration)"
-abbrev pub letterOf : ℕ → Letter
-letterOf c =
-    pick (eqb c 100) (Names kind.Date)
-    (pick (eqb c 116) (Names kind.Time)
-    (pick (eqb c 111) (Names kind.Offset) (pick (eqb c 115) (Names kind.Stamp) (pick (eqb c 112) (Names kind.Duration) Unknown))))
+abbrev pub letterOf : Choices → ℕ → Letter
+letterOf c b =
+    pick (eqb b 100) (Names kind.Date)
+    (pick (eqb b 116) (Names (kind.Time c))
+    (pick (eqb b 111) (Names kind.Offset) (pick (eqb b 115) (Names (kind.Stamp c)) (pick (eqb b 112) (Names kind.Duration) Unknown))))
 
 -- the paper's number, the record if there is one, and the count
 abbrev pub told : Answer → Told Record

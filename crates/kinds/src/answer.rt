@@ -1,7 +1,8 @@
 // A kind as a value, and what its readers answer.
 ghost use mathlib.Core.Path.{_≡_};
 ghost use Rattle.types.specs.Numbers.{numberOf};
-ghost use Rattle.kinds.specs.Kinds.{told};
+ghost use Rattle.kinds.specs.Kinds.{choicesIn, told};
+use types::Choices;
 use types::Date;
 use types::DateTime;
 use types::Duration;
@@ -10,12 +11,28 @@ use types::Refusal;
 use types::Time;
 use types::Verdict;
 
+// A kind, and where its rule has choices, the caller's.
 pub enum Kind {
     Date,
-    Time,
+    Time(Choices),
     Offset,
-    Stamp,
+    Stamp(Choices),
     Duration,
+}
+
+impl Kind {
+    // The choices that it was named with; document 01's where its rule has none.
+    pub fn choices(self) -> Choices
+        ensures { λ r. ⌜ r ≡ choicesIn self ⌝ }
+    {
+        match self {
+            Kind::Date => Choices::DOCUMENT_01,
+            Kind::Time(choices) => choices,
+            Kind::Offset => Choices::DOCUMENT_01,
+            Kind::Stamp(choices) => choices,
+            Kind::Duration => Choices::DOCUMENT_01,
+        }
+    }
 }
 
 // A record of any kind.

@@ -23,18 +23,19 @@ use offsets::OffsetAnswer;
 use offsets::OffsetRead;
 use times::TimeAnswer;
 use times::TimeRead;
+use types::Choices;
 
 pub mod answer;
 
-// The kind that a letter names.
-pub fn kind_of(letter: u8) -> Letter
-    ensures { λ r. ⌜ r ≡ letterOf letter ⌝ }
+// The kind that a letter names, under the choices.
+pub fn kind_of(letter: u8, choices: Choices) -> Letter
+    ensures { λ r. ⌜ r ≡ letterOf choices letter ⌝ }
 {
     match letter {
         b'd' => Letter::Names(Kind::Date),
-        b't' => Letter::Names(Kind::Time),
+        b't' => Letter::Names(Kind::Time(choices)),
         b'o' => Letter::Names(Kind::Offset),
-        b's' => Letter::Names(Kind::Stamp),
+        b's' => Letter::Names(Kind::Stamp(choices)),
         b'p' => Letter::Names(Kind::Duration),
         _ => Letter::Unknown,
     }
@@ -161,9 +162,9 @@ pub fn read(kind: Kind, s: &[u8]) -> Read
 {
     match kind {
         Kind::Date => date_read(dates::date(s)),
-        Kind::Time => time_read(times::time(s)),
+        Kind::Time(choices) => time_read(times::time(s, choices)),
         Kind::Offset => offset_read(offsets::offset(s)),
-        Kind::Stamp => datetime_read(datetimes::datetime(s)),
+        Kind::Stamp(choices) => datetime_read(datetimes::datetime(s, choices)),
         Kind::Duration => duration_read(durations::duration(s)),
     }
 }
@@ -174,9 +175,9 @@ pub fn rest(kind: Kind, s: &[u8]) -> &[u8]
 {
     match kind {
         Kind::Date => dates::date_rest(s),
-        Kind::Time => times::time_rest(s),
+        Kind::Time(choices) => times::time_rest(s, choices),
         Kind::Offset => offsets::offset_rest(s),
-        Kind::Stamp => datetimes::datetime_rest(s),
+        Kind::Stamp(choices) => datetimes::datetime_rest(s, choices),
         Kind::Duration => durations::duration_rest(s),
     }
 }
@@ -187,9 +188,9 @@ pub fn parse(kind: Kind, s: &[u8]) -> Answer
 {
     match kind {
         Kind::Date => of_date(dates::parse_date(s)),
-        Kind::Time => of_time(times::parse_time(s)),
+        Kind::Time(choices) => of_time(times::parse_time(s, choices)),
         Kind::Offset => of_offset(offsets::parse_offset(s)),
-        Kind::Stamp => of_datetime(datetimes::parse_datetime(s)),
+        Kind::Stamp(choices) => of_datetime(datetimes::parse_datetime(s, choices)),
         Kind::Duration => of_duration(durations::parse_duration(s)),
     }
 }

@@ -4,7 +4,7 @@ use mathlib.Core.List.{List, _++_}
 use mathlib.Core.Bool.{Bool, true, false}
 use mathlib.Core.Path.{_≡_, refl}
 use lib.ListN.{length}
-use Rattle.parser.specs.Reading.{Found, no, got, stop, Reader, seq, then, opt, lack, alt, orElse, verify, keep, map, mapFound, give, pick}
+use Rattle.parser.specs.Reading.{Found, no, got, stop, Reader, seq, then, opt, lack, alt, orElse, verify, keep, must, keepOrStop, map, mapFound, give, pick}
 
 -- `long` stands in the one where `short` stands in the other
 pub record Cut : Type 0 where
@@ -66,6 +66,15 @@ module _ (c : Cut) where
       go true = record { place = h .place; found = refl; same = h .same }
       go false = refl
 
+  keep-or-stop-carried : {A : Type 0} (t : A → Bool) (r : ℕ) (f g : Found A) → Carried c f g → Carried c (keepOrStop t r f) (keepOrStop t r g)
+  keep-or-stop-carried t r f no h = rw h
+  keep-or-stop-carried t r f (stop q) h = rw h
+  keep-or-stop-carried {A} t r f (got a n) h = rw (h .found) (go (t a))
+    where
+      go : (u : Bool) → Carried {A = A} c (pick u (got a (h .place)) (stop r)) (pick u (got a n) (stop r))
+      go true = record { place = h .place; found = refl; same = h .same }
+      go false = refl
+
   map-carried : {A B : Type 0} (t : A → B) (f g : Found A) → Carried c f g → Carried c (mapFound t f) (mapFound t g)
   map-carried t f no h = rw h
   map-carried t f (stop r) h = rw h
@@ -86,6 +95,10 @@ module _ (c : Cut) where
   pub verify-simulates : {A : Type 0} (t : A → Bool) (p : Reader A) → Simulates c p → Simulates c (verify t p)
   unfolding verify
   verify-simulates t p hp m n e = keep-carried t (p .reads (whole c) m) (p .reads (kept c) n) (hp m n e)
+
+  pub must-simulates : {A : Type 0} (t : A → Bool) (r : ℕ) (p : Reader A) → Simulates c p → Simulates c (must t r p)
+  unfolding must
+  must-simulates t r p hp m n e = keep-or-stop-carried t r (p .reads (whole c) m) (p .reads (kept c) n) (hp m n e)
 
   pub map-simulates : {A B : Type 0} (t : A → B) (p : Reader A) → Simulates c p → Simulates c (map t p)
   unfolding map

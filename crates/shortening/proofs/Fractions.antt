@@ -1,6 +1,6 @@
--- Nine digits of a fraction decide its number; a comma or point with at most ten digits is eleven bytes; and no other part of these rules
--- takes a comma or point.
-use Prim.Native.Nat.{ℕ, zero, suc, _+_, _*_, _-_, _<_, _≤_}
+-- Nine digits of a fraction decide its number, and one digit stands for two whether all are 0; a comma or point with at most ten digits is
+-- eleven bytes.
+use Prim.Native.Nat.{ℕ, _+_, _-_, _*_, _<_, _≤_}
 use mathlib.Core.List.{List, [], _∷_, _++_, append-assoc}
 use mathlib.Core.Bool.{Bool, true, false}
 use mathlib.Core.Path.{_≡_, refl, sym, _∙_}
@@ -8,61 +8,115 @@ use native.Mathlib.Omega.{arith}
 use lib.ListN.{length, getD, replicate, length-append, List·getD-append, List·getD-eq-default}
 use lib.Seq.{drop-append-add, take-at, getD-append-seam}
 use lib.Dec.{ltb, leb, eqb}
-use borrow.Author.Tests.{ltb-true, ltb-false, lt-ltb, eqb-true, not-true}
-use Rattle.parser.specs.Reading.{Found, no, got, Reader, lit, seq, then, after, alt, orElse, failed, pick, or, and}
-use Rattle.parser.specs.Digits.{isDigit, digitsFrom, digitsMore, field, digits, number, runAt, ofRun, atTheEnd, nanoseconds, fraction, reach}
+use borrow.Author.Tests.{ltb-true, ltb-false, lt-ltb, lt-leb, leb-true, eqb-true, eqb-false, eq-eqb, ne-eqb, not-true}
+use Rattle.parser.specs.Reading.{Found, no, got, stop, Reader, lit, seq, then, after, alt, orElse, failed, pick, or, and}
+use Rattle.parser.specs.Digits.{isDigit, digits, number, numberFrom, runAt, ofRun, atTheEnd, runUpTo, nanoseconds, fraction}
 use Rattle.parser.specs.Fields.{either}
 use Rattle.parser.proofs.Fields.{true≢false, and-first, and-second}
-use Rattle.parser.proofs.Places.{no≢got, got-place, Bounded, seq-bounded, alt-bounded, lit-bounded, fraction-bounded, fraction-foreign, field-bounded, field-foreign}
+use Rattle.parser.proofs.Places.{no≢got, stop≢got, got-place, Bounded, Foreign, seq-bounded, alt-bounded, lit-bounded, run-bounded, run-foreign, fraction-bounded, fraction-foreign}
 use Rattle.shortening.specs.Points.{isPoint}
-use Rattle.shortening.proofs.Cuts.{Cut, whole, kept, behind, Carried, Simulates}
-use Rattle.shortening.proofs.Local.{Local, lit-local, field-local, fraction-local, alt-local, seq-local}
+use Rattle.shortening.proofs.Cuts.{Cut, whole, kept, Place, behind, Carried, Simulates}
+use Rattle.shortening.proofs.Local.{Local, lit-local, run-local, fraction-local, alt-local, seq-local}
 use Rattle.shortening.proofs.Spans.{Spans}
-use Rattle.shortening.proofs.Trims.{fractions, FractionCut, cut, allDigits, Normal, Trims, same-before, simulates-by, foreign-simulates}
+use Rattle.shortening.proofs.Trims.{fractions, FractionCut, cut, allDigits, Normal, Trims, same-before, simulates-by}
+use Rattle.shortening.proofs.Fields.{point-no-digit}
 
--- ---- fields
+-- ---- what reads the digits behind a comma or point: its run d, up to the place k, is told as `value d k`
 
-pub point-no-digit : (b : ℕ) → isPoint b ≡ true → isDigit b ≡ false
-point-no-digit b h = go (eqb b 44) refl h
-  where
-    go : (t : Bool) → eqb b 44 ≡ t → or t (eqb b 46) ≡ true → isDigit b ≡ false
-    go true e h = rw (eqb-true b 44 e)
-    go false e h = rw (eqb-true b 46 h)
+pub record Leaf (q : Reader ℕ) : Type 0 where
+  pub value : List ℕ → ℕ → Found ℕ
+  pub reads : (s : List ℕ) (at : ℕ) → q .reads s at ≡ ofRun (runAt s at) no (value (runAt s at) (at + length (runAt s at)))
+  pub opens : (s : List ℕ) (at : ℕ) → q .more s at ≡ true → atTheEnd s at ≡ true
+  pub ends : (d : List ℕ) (k a n : ℕ) → value d k ≡ got a n → n ≡ k
+  pub local : Local q
+  pub bounded : Bounded q
+  pub foreign : Foreign (λ b. isPoint b ≡ true) q
+  pub same : (z : FractionCut) (x : List ℕ) (m n : ℕ) → Place (cut fractions z) m n → Carried (cut fractions z) (value (z .nine ++ (z .tenth ∷ z .next ∷ x)) m) (value (z .nine ++ (z .one ∷ x)) n)
 
--- a digit, and what stands behind it
-digit-spans : (s : List ℕ) (k at : ℕ) (m : Bool) (f : Found ℕ) (t u r : Bool) → ltb at (length s) ≡ t → Spans (λ _. Unit) s k (at + 1) m f → Spans (λ _. Unit) s (suc k) at (pick t (pick (and t u) m false) r) (pick (and t u) f no)
-digit-spans s k at m f true true r e h = record { opens = λ o. omega (arith, h .opens o); ends = λ a n g. (omega (arith, h .ends a n g .0), tt) }
-digit-spans s k at m f true false r e h = record { opens = λ o. absurd (true≢false (sym o)); ends = λ a n g. absurd (no≢got g) }
-digit-spans s k at m f false u r e h = record { opens = λ o. omega (arith, ltb-false at (length s) e); ends = λ a n g. absurd (no≢got g) }
+-- ---- the fraction: nine digits decide
 
-digits-spans : (lo hi n v : ℕ) (s : List ℕ) (at : ℕ) → Spans (λ _. Unit) s n at (digitsMore lo hi n v s at) (digitsFrom lo hi n v s at)
-unfolding digitsMore digitsFrom
-digits-spans lo hi zero v s at = record { opens = λ o. absurd (true≢false (sym o)); ends = λ a n e. (go a n (and (leb lo v) (leb v hi)) e, tt) }
-  where
-    go : (a n : ℕ) (t : Bool) → pick t (got v at) no ≡ got a n → n ≤ at + 0
-    go a n true e = omega (arith, got-place e)
-    go a n false e = absurd (no≢got e)
-digits-spans lo hi (suc k) v s at = digit-spans s k at _ _ (ltb at (length s)) (isDigit (getD s at 0)) (reach lo hi (suc k) v) refl (digits-spans lo hi k (v * 10 + (getD s at 0 - 48)) s (at + 1))
+nine-decide : (n r : List ℕ) → length n ≡ 9 → nanoseconds (n ++ r) ≡ number n
+nine-decide n r h = rw (append-assoc n r (replicate 9 48), take-at n (r ++ replicate 9 48) 9 h)
 
-pub field-trims : (n lo hi : ℕ) → Trims fractions n (field n lo hi)
-unfolding field
-field-trims n lo hi = record {
-  simulates = foreign-simulates fractions (field n lo hi) (field-local n lo hi) (field-bounded n lo hi) (field-foreign (λ b. isPoint b ≡ true) n lo hi point-no-digit);
-  within = λ s h at g. digits-spans lo hi n 0 s at;
+pub fraction-leaf : Leaf fraction
+unfolding fraction
+fraction-leaf = record {
+  value = λ d k. got (nanoseconds d) k;
+  reads = λ s at. refl;
+  opens = λ s at o. o;
+  ends = λ d k a n e. sym (got-place e);
+  local = fraction-local;
+  bounded = fraction-bounded;
+  foreign = fraction-foreign (λ b. isPoint b ≡ true) point-no-digit;
+  same = λ z x m n e. record { place = m; found = rw (nine-decide (z .nine) (z .tenth ∷ z .next ∷ x) (z .size), nine-decide (z .nine) (z .one ∷ x) (z .size)); same = e };
 }
 
--- ---- the comma or point with its digits
+-- ---- zeros: one digit stands for two
 
-abbrev pub point : Reader ℕ
-point = seq (either 44 46) (λ _. fraction)
+abbrev allZero : List ℕ → Bool
+allZero [] = true
+allZero (b ∷ d) = and (eqb (b - 48) 0) (allZero d)
 
-point-local : Local point
-point-local = seq-local (either 44 46) (λ _. fraction) (alt-local (lit 44) (lit 46) (lit-local 44) (lit-local 46)) (λ _. fraction-local)
+zero-number : (v : ℕ) (d : List ℕ) → leb (numberFrom v d) 0 ≡ and (eqb v 0) (allZero d)
+unfolding numberFrom
+zero-number v [] = go (eqb v 0) refl
+  where
+    go : (t : Bool) → eqb v 0 ≡ t → leb v 0 ≡ and t true
+    go true e = rw (eqb-true v 0 e)
+    go false e = lt-leb v 0 (let h = eqb-false v 0 e in omega arith)
+zero-number v (b ∷ d) = zero-number (v * 10 + (b - 48)) d ∙ go (eqb v 0) refl (eqb (b - 48) 0) refl
+  where
+    go : (t : Bool) → eqb v 0 ≡ t → (u : Bool) → eqb (b - 48) 0 ≡ u → and (eqb (v * 10 + (b - 48)) 0) (allZero d) ≡ and t (and u (allZero d))
+    go true e true g = let z : v * 10 + (b - 48) ≡ 0 = omega (arith, eqb-true v 0 e, eqb-true (b - 48) 0 g) in rw (eq-eqb (v * 10 + (b - 48)) 0 z)
+    go true e false g = let h = eqb-false (b - 48) 0 g in rw (ne-eqb (v * 10 + (b - 48)) 0 (λ z. h (omega arith)))
+    go false e u g = let h = eqb-false v 0 e in rw (ne-eqb (v * 10 + (b - 48)) 0 (λ z. h (omega arith)))
 
-point-bounded : Bounded point
-point-bounded = seq-bounded (either 44 46) (λ _. fraction) (alt-bounded (lit 44) (lit 46) (lit-bounded 44) (lit-bounded 46)) (λ _. fraction-bounded)
+zero-digit : (b : ℕ) → isDigit b ≡ true → eqb (b - 48) 0 ≡ eqb b 48
+zero-digit b d = go (eqb b 48) refl
+  where
+    go : (t : Bool) → eqb b 48 ≡ t → eqb (b - 48) 0 ≡ t
+    go true e = rw (eqb-true b 48 e)
+    go false e = let h = eqb-false b 48 e in ne-eqb (b - 48) 0 (λ z. h (omega (arith, leb-true 48 b (and-first (leb 48 b) (leb b 57) d))))
 
--- what it finds, and where it is open
+zero-append : (l d e : List ℕ) → allZero d ≡ allZero e → allZero (l ++ d) ≡ allZero (l ++ e)
+zero-append [] d e h = h
+zero-append (b ∷ l) d e h = rw (zero-append l d e h)
+
+zero-joined : (z : FractionCut) (x : List ℕ) → leb (number (z .nine ++ (z .tenth ∷ z .next ∷ x))) 0 ≡ leb (number (z .nine ++ (z .one ∷ x))) 0
+zero-joined z x =
+    let two : allZero (z .tenth ∷ z .next ∷ x) ≡ allZero (z .one ∷ x) = rw (zero-digit (z .tenth) (z .first), zero-digit (z .next) (z .second), zero-digit (z .one) (z .either), z .zero) (and-assoc (eqb (z .tenth) 48) (eqb (z .next) 48)) in
+    zero-number 0 (z .nine ++ (z .tenth ∷ z .next ∷ x)) ∙ zero-append (z .nine) (z .tenth ∷ z .next ∷ x) (z .one ∷ x) two ∙ sym (zero-number 0 (z .nine ++ (z .one ∷ x)))
+  where
+    and-assoc : (t u : Bool) → and t (and u (allZero x)) ≡ and (and t u) (allZero x)
+    and-assoc true u = refl
+    and-assoc false u = refl
+
+pub zeros-leaf : (r : ℕ) → Leaf (runUpTo 0 r)
+unfolding runUpTo
+zeros-leaf r = record {
+  value = value;
+  reads = λ s at. refl;
+  opens = λ s at o. and-first (atTheEnd s at) _ o;
+  ends = λ d k a n. ends d k a n (leb (number d) 0);
+  local = run-local 0 r;
+  bounded = run-bounded 0 r;
+  foreign = run-foreign 0 r (λ b. isPoint b ≡ true) point-no-digit;
+  same = λ z x m n e. same z m n e (number (z .nine ++ (z .tenth ∷ z .next ∷ x))) (number (z .nine ++ (z .one ∷ x))) (leb (number (z .nine ++ (z .one ∷ x))) 0) (zero-joined z x) refl;
+}
+  where
+    value : List ℕ → ℕ → Found ℕ
+    value d k = pick (leb (number d) 0) (got (number d) k) (stop r)
+
+    ends : (d : List ℕ) (k a n : ℕ) (t : Bool) → pick t (got (number d) k) (stop r) ≡ got a n → n ≡ k
+    ends d k a n true e = sym (got-place e)
+    ends d k a n false e = absurd (stop≢got e)
+
+    same : (z : FractionCut) (m n : ℕ) → Place (cut fractions z) m n → (v w : ℕ) (t : Bool) → leb v 0 ≡ leb w 0 → leb w 0 ≡ t → Carried (cut fractions z) (pick (leb v 0) (got v m) (stop r)) (pick (leb w 0) (got w n) (stop r))
+    same z m n e v w true h g = let both : v ≡ w = omega (arith, leb-true v 0 (h ∙ g), leb-true w 0 g) in rw (h, g) record { place = m; found = rw both; same = e }
+    same z m n e v w false h g = rw (h, g)
+
+-- ---- what the comma or point with its digits finds, and where it is open
+
 either-way : {A B : Type 0} (v : A) (n : ℕ) (k : ℕ → Found B) (t u : Bool) → then (orElse (pick t (got v n) no) (pick u (got v n) no)) (λ _ m. k m) ≡ pick (or t u) (k n) no
 either-way v n k true u = refl
 either-way v n k false true = refl
@@ -73,87 +127,93 @@ either-open v n k true u = refl
 either-open v n k false true = refl
 either-open v n k false false = refl
 
-point-at : (s : List ℕ) (at : ℕ) → point .reads s at ≡ pick (isPoint (getD s at 0)) (fraction .reads s (at + 1)) no
-unfolding seq alt lit
-point-at s at = go (ltb at (length s)) refl
-  where
-    go : (t : Bool) → ltb at (length s) ≡ t → point .reads s at ≡ pick (isPoint (getD s at 0)) (fraction .reads s (at + 1)) no
-    go true e = rw e (either-way tt (at + 1) (λ m. fraction .reads s m) (eqb (getD s at 0) 44) (eqb (getD s at 0) 46))
-    go false e = rw (e, List·getD-eq-default s 0 (ltb-false at (length s) e))
-
-point-open : (s : List ℕ) (at : ℕ) → at < length s → point .more s at ≡ pick (isPoint (getD s at 0)) (atTheEnd s (at + 1)) false
-unfolding seq alt lit fraction
-point-open s at lt = rw (lt-ltb at (length s) lt) (either-open tt (at + 1) (λ m. atTheEnd s m) (eqb (getD s at 0) 44) (eqb (getD s at 0) 46))
-
--- ---- eleven bytes
-
-fraction-ends : (s : List ℕ) (at a n : ℕ) → fraction .reads s at ≡ got a n → n ≡ at + length (runAt s at)
-unfolding fraction
-fraction-ends s at a n e = go (runAt s at) e
-  where
-    go : (d : List ℕ) → ofRun d no (got (nanoseconds d) (at + length d)) ≡ got a n → n ≡ at + length d
-    go [] e = absurd (no≢got e)
-    go (b ∷ d) e = sym (got-place e)
-
-point-spans : (s : List ℕ) → Normal fractions s → (at : ℕ) → Spans (λ _. Unit) s 11 at (point .more s at) (point .reads s at)
-point-spans s few at = record { opens = λ o. opened (ltb at (length s)) refl o; ends = λ a n e. (ended a n (isPoint (getD s at 0)) refl (sym (point-at s at) ∙ e), tt) }
-  where
-    inside : (t : Bool) → isPoint (getD s at 0) ≡ t → pick t (atTheEnd s (at + 1)) false ≡ true → length s ≤ at + 11
-    inside true e o = omega (arith, few at e, ltb-false (at + 1 + length (runAt s (at + 1))) (length s) (not-true (ltb (at + 1 + length (runAt s (at + 1))) (length s)) o))
-    inside false e o = absurd (true≢false (sym o))
-
-    opened : (t : Bool) → ltb at (length s) ≡ t → point .more s at ≡ true → length s ≤ at + 11
-    opened true e o = inside (isPoint (getD s at 0)) refl (sym (point-open s at (ltb-true at (length s) e)) ∙ o)
-    opened false e o = omega (arith, ltb-false at (length s) e)
-
-    ended : (a n : ℕ) (t : Bool) → isPoint (getD s at 0) ≡ t → pick t (fraction .reads s (at + 1)) no ≡ got a n → n ≤ at + 11
-    ended a n true e eg = omega (arith, few at e, fraction-ends s (at + 1) a n eg)
-    ended a n false e eg = absurd (no≢got eg)
-
--- ---- the same number
-
 digits-through : (l x : List ℕ) → allDigits l ≡ true → digits (l ++ x) ≡ l ++ digits x
 unfolding digits
 digits-through [] x h = refl
 digits-through (b ∷ l) x h = rw (and-first (isDigit b) (allDigits l) h, digits-through l x (and-second (isDigit b) h))
 
-fraction-got : (s : List ℕ) (at : ℕ) (d : List ℕ) → runAt s at ≡ d → 0 < length d → fraction .reads s at ≡ got (nanoseconds d) (at + length d)
-unfolding fraction
-fraction-got s at [] e h = absurd (omega arith)
-fraction-got s at (b ∷ d) e h = rw e
+of-run : (d : List ℕ) (f : Found ℕ) → 0 < length d → ofRun d no f ≡ f
+of-run [] f h = absurd (omega arith)
+of-run (b ∷ d) f h = refl
 
-nine-decide : (n r : List ℕ) → length n ≡ 9 → nanoseconds (n ++ r) ≡ number n
-nine-decide n r h = rw (append-assoc n r (replicate 9 48), take-at n (r ++ replicate 9 48) 9 h)
+module _ (q : Reader ℕ) (l : Leaf q) where
+  abbrev point : Reader ℕ
+  point = seq (either 44 46) (λ _. q)
 
--- the point at the end of u, nine digits and r more
-at-point : (u : List ℕ) (z : ℕ) (n r y : List ℕ) → isPoint z ≡ true → length n ≡ 9 → allDigits n ≡ true → allDigits r ≡ true → 0 < length r → point .reads (u ++ ((z ∷ (n ++ r)) ++ y)) (length u) ≡ got (number n) (length (u ++ z ∷ (n ++ r)) + length (digits y))
-at-point u z n r y hz hn an ar hr =
-    let s = u ++ ((z ∷ (n ++ r)) ++ y) in
-    let run : runAt s (length u + 1) ≡ n ++ (r ++ digits y) = rw (drop-append-add u ((z ∷ (n ++ r)) ++ y) 1, append-assoc n r y, digits-through n (r ++ y) an, digits-through r y ar) in
-    let size : length u + 1 + length (n ++ (r ++ digits y)) ≡ length (u ++ z ∷ (n ++ r)) + length (digits y) = omega (arith, length-append n (r ++ digits y), length-append r (digits y), length-append u (z ∷ (n ++ r)), length-append n r) in
-    point-at s (length u) ∙ rw (getD-append-seam u z ((n ++ r) ++ y) 0, hz) (fraction-got s (length u + 1) (n ++ (r ++ digits y)) run (omega (arith, length-append n (r ++ digits y))) ∙ rw (nine-decide n (r ++ digits y) hn, size))
+  point-local : Local point
+  point-local = seq-local (either 44 46) (λ _. q) (alt-local (lit 44) (lit 46) (lit-local 44) (lit-local 46)) (λ _. l .local)
 
-module _ (z : FractionCut) where
-  abbrev here : Cut
-  here = cut fractions z
+  point-bounded : Bounded point
+  point-bounded = seq-bounded (either 44 46) (λ _. q) (alt-bounded (lit 44) (lit 46) (lit-bounded 44) (lit-bounded 46)) (λ _. l .bounded)
 
-  point-at-cut : Carried here (point .reads (whole here) (length (z .before))) (point .reads (kept here) (length (z .before)))
-  point-at-cut = rw (at-point (z .before) (z .point) (z .nine) (z .tenth ∷ z .next ∷ []) (z .rest) (z .points) (z .size) (z .digits) (rw (z .first, z .second)) (omega arith), at-point (z .before) (z .point) (z .nine) (z .one ∷ []) (z .rest) (z .points) (z .size) (z .digits) (rw (z .either)) (omega arith))
-      record { place = length (here .before ++ here .long) + length (digits (z .rest)); found = refl; same = behind (length (digits (z .rest))) refl refl }
-
-  -- a fraction that begins before the cut ends there
-  point-before : (n : ℕ) → n < length (z .before) → (y : List ℕ) → point .reads (z .before ++ z .point ∷ y) n ≡ point .reads (z .before) n
-  point-before n lt y =
-      let same : getD (z .before ++ z .point ∷ y) n 0 ≡ getD (z .before) n 0 = List·getD-append (z .before) (z .point ∷ y) 0 n lt in
-      let on = fraction-foreign (λ b. isPoint b ≡ true) point-no-digit (z .before) (z .point) y (n + 1) (z .points) (omega arith) in
-      point-at (z .before ++ z .point ∷ y) n ∙ rw (same, on) (sym (point-at (z .before) n))
-
-  point-simulates : Simulates here point
-  point-simulates = simulates-by here point point-local (λ n le. go n le (ltb n (length (z .before))) refl)
+  point-at : (s : List ℕ) (at : ℕ) → point .reads s at ≡ pick (isPoint (getD s at 0)) (q .reads s (at + 1)) no
+  unfolding seq alt lit
+  point-at s at = go (ltb at (length s)) refl
     where
-      go : (n : ℕ) → n ≤ length (z .before) → (t : Bool) → ltb n (length (z .before)) ≡ t → Carried here (point .reads (whole here) n) (point .reads (kept here) n)
-      go n le true e = let lt = ltb-true n (length (z .before)) e in same-before here point point-bounded n le (point-before n lt _) (point-before n lt _)
-      go n le false e = let end : n ≡ length (z .before) = omega (arith, ltb-false n (length (z .before)) e) in rw end point-at-cut
+      go : (t : Bool) → ltb at (length s) ≡ t → point .reads s at ≡ pick (isPoint (getD s at 0)) (q .reads s (at + 1)) no
+      go true e = rw e (either-way tt (at + 1) (λ m. q .reads s m) (eqb (getD s at 0) 44) (eqb (getD s at 0) 46))
+      go false e = rw (e, List·getD-eq-default s 0 (ltb-false at (length s) e))
 
-pub point-trims : Trims fractions 11 point
-point-trims = record { simulates = point-simulates; within = λ s few at g. point-spans s few at }
+  point-open : (s : List ℕ) (at : ℕ) → at < length s → point .more s at ≡ pick (isPoint (getD s at 0)) (q .more s (at + 1)) false
+  unfolding seq alt lit
+  point-open s at lt = rw (lt-ltb at (length s) lt) (either-open tt (at + 1) (λ m. q .more s m) (eqb (getD s at 0) 44) (eqb (getD s at 0) 46))
+
+  -- ---- eleven bytes
+
+  leaf-ends : (s : List ℕ) (at a n : ℕ) → q .reads s at ≡ got a n → n ≡ at + length (runAt s at)
+  leaf-ends s at a n e = go (runAt s at) (sym (l .reads s at) ∙ e)
+    where
+      go : (d : List ℕ) → ofRun d no (l .value d (at + length d)) ≡ got a n → n ≡ at + length d
+      go [] e = absurd (no≢got e)
+      go (b ∷ d) e = l .ends (b ∷ d) (at + length (b ∷ d)) a n e
+
+  point-spans : (s : List ℕ) → Normal fractions s → (at : ℕ) → Spans (λ _. Unit) s 11 at (point .more s at) (point .reads s at)
+  point-spans s few at = record { opens = λ o. opened (ltb at (length s)) refl o; ends = λ a n e. (ended a n (isPoint (getD s at 0)) refl (sym (point-at s at) ∙ e), tt) }
+    where
+      inside : (t : Bool) → isPoint (getD s at 0) ≡ t → pick t (q .more s (at + 1)) false ≡ true → length s ≤ at + 11
+      inside true e o = omega (arith, few at e, ltb-false (at + 1 + length (runAt s (at + 1))) (length s) (not-true (ltb (at + 1 + length (runAt s (at + 1))) (length s)) (l .opens s (at + 1) o)))
+      inside false e o = absurd (true≢false (sym o))
+
+      opened : (t : Bool) → ltb at (length s) ≡ t → point .more s at ≡ true → length s ≤ at + 11
+      opened true e o = inside (isPoint (getD s at 0)) refl (sym (point-open s at (ltb-true at (length s) e)) ∙ o)
+      opened false e o = omega (arith, ltb-false at (length s) e)
+
+      ended : (a n : ℕ) (t : Bool) → isPoint (getD s at 0) ≡ t → pick t (q .reads s (at + 1)) no ≡ got a n → n ≤ at + 11
+      ended a n true e eg = omega (arith, few at e, leaf-ends s (at + 1) a n eg)
+      ended a n false e eg = absurd (no≢got eg)
+
+  -- ---- the same is told
+
+  -- the point at the end of u, nine digits and r more
+  at-point : (u : List ℕ) (z : ℕ) (n r y : List ℕ) → isPoint z ≡ true → allDigits n ≡ true → allDigits r ≡ true → 0 < length r → point .reads (u ++ ((z ∷ (n ++ r)) ++ y)) (length u) ≡ l .value (n ++ (r ++ digits y)) (length (u ++ z ∷ (n ++ r)) + length (digits y))
+  at-point u z n r y hz an ar hr =
+      let s = u ++ ((z ∷ (n ++ r)) ++ y) in
+      let run : runAt s (length u + 1) ≡ n ++ (r ++ digits y) = rw (drop-append-add u ((z ∷ (n ++ r)) ++ y) 1, append-assoc n r y, digits-through n (r ++ y) an, digits-through r y ar) in
+      let size : length u + 1 + length (n ++ (r ++ digits y)) ≡ length (u ++ z ∷ (n ++ r)) + length (digits y) = omega (arith, length-append n (r ++ digits y), length-append r (digits y), length-append u (z ∷ (n ++ r)), length-append n r) in
+      let some : 0 < length (n ++ (r ++ digits y)) = omega (arith, length-append n (r ++ digits y), length-append r (digits y)) in
+      point-at s (length u) ∙ rw (getD-append-seam u z ((n ++ r) ++ y) 0, hz) (l .reads s (length u + 1) ∙ rw (run, size) (of-run (n ++ (r ++ digits y)) (l .value (n ++ (r ++ digits y)) (length (u ++ z ∷ (n ++ r)) + length (digits y))) some))
+
+  module _ (z : FractionCut) where
+    abbrev here : Cut
+    here = cut fractions z
+
+    point-at-cut : Carried here (point .reads (whole here) (length (z .before))) (point .reads (kept here) (length (z .before)))
+    point-at-cut = rw (at-point (z .before) (z .point) (z .nine) (z .tenth ∷ z .next ∷ []) (z .rest) (z .points) (z .digits) (rw (z .first, z .second)) (omega arith), at-point (z .before) (z .point) (z .nine) (z .one ∷ []) (z .rest) (z .points) (z .digits) (rw (z .either)) (omega arith))
+        (l .same z (digits (z .rest)) _ _ (behind (length (digits (z .rest))) refl refl))
+
+    -- a fraction that begins before the cut ends there
+    point-before : (n : ℕ) → n < length (z .before) → (y : List ℕ) → point .reads (z .before ++ z .point ∷ y) n ≡ point .reads (z .before) n
+    point-before n lt y =
+        let same : getD (z .before ++ z .point ∷ y) n 0 ≡ getD (z .before) n 0 = List·getD-append (z .before) (z .point ∷ y) 0 n lt in
+        let on = l .foreign (z .before) (z .point) y (n + 1) (z .points) (omega arith) in
+        point-at (z .before ++ z .point ∷ y) n ∙ rw (same, on) (sym (point-at (z .before) n))
+
+    point-simulates : Simulates here point
+    point-simulates = simulates-by here point point-local (λ n le. go n le (ltb n (length (z .before))) refl)
+      where
+        go : (n : ℕ) → n ≤ length (z .before) → (t : Bool) → ltb n (length (z .before)) ≡ t → Carried here (point .reads (whole here) n) (point .reads (kept here) n)
+        go n le true e = let lt = ltb-true n (length (z .before)) e in same-before here point point-bounded n le (point-before n lt _) (point-before n lt _)
+        go n le false e = let end : n ≡ length (z .before) = omega (arith, ltb-false n (length (z .before)) e) in rw end point-at-cut
+
+  pub point-trims : Trims fractions 11 point
+  point-trims = record { simulates = point-simulates; within = λ s few at g. point-spans s few at }

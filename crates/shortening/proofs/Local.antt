@@ -9,7 +9,7 @@ use lib.ListN.{length, getD}
 use lib.Dec.{ltb, leb, eqb}
 use borrow.Author.Tests.{ltb-true, ltb-false, lt-ltb, le-ltb}
 use Rattle.parser.specs.Reading.{Found, no, got, stop, Reader, lit, seq, then, alt, orElse, pick, and}
-use Rattle.parser.specs.Digits.{isDigit, digitsFrom, field, number, runAt, ofRun, limit, run, nanoseconds, fraction}
+use Rattle.parser.specs.Digits.{isDigit, digitsFrom, field, number, runAt, ofRun, runUpTo, nanoseconds, fraction}
 use Rattle.shortening.proofs.Cuts.{Cut, whole, kept, before, behind, Carried}
 
 -- what is found, so many places further on
@@ -51,17 +51,17 @@ pub field-local : (k lo hi : ℕ) → Local (field k lo hi)
 unfolding field
 field-local k lo hi b s n = digits-local lo hi k 0 b s n
 
-pub run-local : Local run
-unfolding run
-run-local b s n = go (runAt s n)
+pub run-local : (most r : ℕ) → Local (runUpTo most r)
+unfolding runUpTo
+run-local most r b s n = go (runAt s n)
   where
-    fits : (d : List ℕ) (t : Bool) → pick t (got (number d) (suc n + length d)) (stop 2) ≡ onward 1 (pick t (got (number d) (n + length d)) (stop 2))
+    fits : (d : List ℕ) (t : Bool) → pick t (got (number d) (suc n + length d)) (stop r) ≡ onward 1 (pick t (got (number d) (n + length d)) (stop r))
     fits d true = ap (got (number d)) (omega arith)
     fits d false = refl
 
-    go : (d : List ℕ) → ofRun d no (pick (leb (number d) limit) (got (number d) (suc n + length d)) (stop 2)) ≡ onward 1 (ofRun d no (pick (leb (number d) limit) (got (number d) (n + length d)) (stop 2)))
+    go : (d : List ℕ) → ofRun d no (pick (leb (number d) most) (got (number d) (suc n + length d)) (stop r)) ≡ onward 1 (ofRun d no (pick (leb (number d) most) (got (number d) (n + length d)) (stop r)))
     go [] = refl
-    go (c ∷ d) = fits (c ∷ d) (leb (number (c ∷ d)) limit)
+    go (c ∷ d) = fits (c ∷ d) (leb (number (c ∷ d)) most)
 
 pub fraction-local : Local fraction
 unfolding fraction

@@ -1,18 +1,26 @@
 -- What can be left out of a record of each kind, and how far its rule comes then: by the laws of the combinators, a kind in a few lines.
+use Prim.Native.Nat.{ℕ}
+use mathlib.Core.Bool.{Bool, true, false}
 use mathlib.Core.Path.{refl}
 use native.Mathlib.Omega.{arith}
-use Rattle.parser.specs.Fields.{signed}
+use Rattle.types.specs.declared.Choices.{Choices}
+use Rattle.types.specs.declared.Edition.{Edition}
+use Rattle.types.specs.declared.Edition.the-variants.{E2004, E2019}
+use Rattle.parser.specs.Reading.{seq}
+use Rattle.parser.specs.Digits.{field, runUpTo, fraction}
+use Rattle.parser.specs.Fields.{signed, either, precededBy}
 use Rattle.offset.specs.Rules.{offset, offsetHour, offsetMinute, offsetZulu}
-use Rattle.time.specs.Rules.{time, baseTime, afterHour, timeOffset, minuteSecondMillisecond, secondMillisecond, millisecond}
+use Rattle.time.specs.Rules.{hourOf, endsDay, zeroIf, fractionIf, time, baseTime, afterHour, timeOffset, minuteSecondMillisecond, secondMillisecond, millisecond}
 use Rattle.date.specs.Rules.{date, year, weekAndDay, dayOfWeek, mdNumeric, ordinal, monthAndDay, dayOfMonth}
 use Rattle.datetime.specs.Rules.{dateTime, afterDate, timeOf}
 use Rattle.duration.specs.Rules.{duration, partsRule, durationTime, durationBaseTime}
 use Rattle.kinds.specs.declared.answer.Kind.{Kind}
 use Rattle.kinds.specs.declared.answer.Kind.the-variants as kind
 use Rattle.kinds.specs.Kinds.{ruleOf}
-use Rattle.shortening.proofs.Trims.{Family, zeros, fractions, Trims, lit-trims, seq-trims, opt-trims, alt-trims, verify-trims, map-trims, give-trims, preceded-trims, weaken-trims}
+use Rattle.shortening.proofs.Trims.{Family, zeros, fractions, Trims, lit-trims, seq-trims, opt-trims, alt-trims, verify-trims, must-trims, map-trims, give-trims, preceded-trims, weaken-trims}
 use Rattle.shortening.proofs.Zeros.{part-trims}
-use Rattle.shortening.proofs.Fractions.{field-trims, point-trims}
+use Rattle.shortening.proofs.Fields.{field-trims}
+use Rattle.shortening.proofs.Fractions.{fraction-leaf, zeros-leaf, point-trims}
 
 duration-trims : Trims zeros 79 duration
 unfolding duration partsRule durationTime durationBaseTime
@@ -34,19 +42,32 @@ offset-trims =
     (seq-trims signed-trims (λ _. seq-trims (field-trims 2 0 23) (λ _. map-trims _ (verify-trims _ (opt-trims (preceded-trims 58 refl (field-trims 2 0 59)))))))
     (map-trims _ (lit-trims fractions 90 refl))
 
-clock-trims : Trims fractions 17 minuteSecondMillisecond
+-- what is read behind an hour, whether or not it has to be 0
+zero-trims : (z : Bool) (hi : ℕ) → Trims fractions 3 (precededBy 58 (zeroIf z (field 2 0 hi)))
+zero-trims true hi = preceded-trims 58 refl (must-trims _ 1 (field-trims 2 0 hi))
+zero-trims false hi = preceded-trims 58 refl (field-trims 2 0 hi)
+
+fraction-trims : (z : Bool) → Trims fractions 11 (seq (either 44 46) (λ _. fractionIf z))
+fraction-trims true = point-trims (runUpTo 0 1) (zeros-leaf 1)
+fraction-trims false = point-trims fraction fraction-leaf
+
+clock-trims : (z : Bool) → Trims fractions 17 (minuteSecondMillisecond z)
 unfolding minuteSecondMillisecond secondMillisecond millisecond
-clock-trims =
-    seq-trims (preceded-trims 58 refl (field-trims 2 0 59)) (λ _.
-    seq-trims (opt-trims (preceded-trims 58 refl (field-trims 2 0 60))) (λ _. map-trims _ (opt-trims point-trims)))
+clock-trims z =
+    seq-trims (zero-trims z 59) (λ _.
+    seq-trims (opt-trims (zero-trims z 60)) (λ _. map-trims _ (opt-trims (fraction-trims z))))
 
-base-time-trims : Trims fractions 25 baseTime
+hour-trims : (e : Edition) → Trims fractions 2 (hourOf e)
+hour-trims E2019 = field-trims 2 0 23
+hour-trims E2004 = field-trims 2 0 24
+
+base-time-trims : (c : Choices) → Trims fractions 25 (baseTime c)
 unfolding baseTime afterHour timeOffset
-base-time-trims = seq-trims (field-trims 2 0 23) (λ _. seq-trims (opt-trims clock-trims) (λ _. map-trims _ (opt-trims offset-trims)))
+base-time-trims c = seq-trims (hour-trims (c .edition)) (λ h. seq-trims (opt-trims (clock-trims (endsDay (c .edition) h))) (λ _. map-trims _ (opt-trims offset-trims)))
 
-time-trims : Trims fractions 26 time
+time-trims : (c : Choices) → Trims fractions 26 (time c)
 unfolding time
-time-trims = preceded-trims 84 refl base-time-trims
+time-trims c = preceded-trims 84 refl (base-time-trims c)
 
 year-trims : Trims fractions 5 year
 unfolding year
@@ -63,22 +84,22 @@ date-trims =
     (seq-trims year-trims (λ _. preceded-trims 45 refl (map-trims _ (field-trims 3 1 366))))
     (seq-trims year-trims (λ _. seq-trims (lit-trims fractions 45 refl) (λ _. seq-trims (field-trims 2 1 12) (λ _. map-trims _ (map-trims _ (opt-trims (preceded-trims 45 refl (field-trims 2 1 31))))))))))
 
-datetime-trims : Trims fractions 37 dateTime
+datetime-trims : (c : Choices) → Trims fractions 37 (dateTime c)
 unfolding dateTime afterDate timeOf
-datetime-trims = seq-trims date-trims (λ _. seq-trims (lit-trims fractions 84 refl) (λ _. map-trims _ base-time-trims))
+datetime-trims c = seq-trims date-trims (λ _. seq-trims (lit-trims fractions 84 refl) (λ _. map-trims _ (base-time-trims c)))
 
 -- ---- once over the kind
 
 abbrev pub familyOf : Kind → Family
 familyOf kind.Date = fractions
-familyOf kind.Time = fractions
+familyOf (kind.Time c) = fractions
 familyOf kind.Offset = fractions
-familyOf kind.Stamp = fractions
+familyOf (kind.Stamp c) = fractions
 familyOf kind.Duration = zeros
 
 pub trims : (k : Kind) → Trims (familyOf k) 79 (ruleOf k)
 trims kind.Date = weaken-trims 79 (omega arith) (map-trims _ date-trims)
-trims kind.Time = weaken-trims 79 (omega arith) (map-trims _ time-trims)
+trims (kind.Time c) = weaken-trims 79 (omega arith) (map-trims _ (time-trims c))
 trims kind.Offset = weaken-trims 79 (omega arith) (map-trims _ offset-trims)
-trims kind.Stamp = weaken-trims 79 (omega arith) (map-trims _ datetime-trims)
+trims (kind.Stamp c) = weaken-trims 79 (omega arith) (map-trims _ (datetime-trims c))
 trims kind.Duration = map-trims _ duration-trims

@@ -6,7 +6,7 @@ use mathlib.Core.Option.{Option}
 use mathlib.Core.Path.{_≡_, refl, sym, _∙_}
 use native.Mathlib.Omega.{arith}
 use lib.ListN.{length}
-use Rattle.parser.specs.Reading.{Found, no, got, stop, Reader, seq, then, after, opt, lack, alt, orElse, failed, verify, keep, map, mapFound, give, pick, or, and}
+use Rattle.parser.specs.Reading.{Found, no, got, stop, Reader, seq, then, after, opt, lack, alt, orElse, failed, verify, keep, must, keepOrStop, map, mapFound, give, pick, or, and}
 use Rattle.parser.proofs.Fields.{true≢false}
 use Rattle.parser.proofs.Places.{no≢got, stop≢got, got-place}
 use Rattle.parser.proofs.Lawful.{most, most-left, most-right}
@@ -72,6 +72,19 @@ module _ (P : ℕ → Type 0) (s : List ℕ) where
       go : (f : Found A) → p .reads s at ≡ f → (b : A) (n : ℕ) → keep t f ≡ got b n → (n ≤ at + w) × P n
       go no ef b n e = absurd (no≢got e)
       go (stop r) ef b n e = absurd (stop≢got e)
+      go (got a k) ef b n e = kept a k ef (t a) b n e
+
+  pub must-within : {A : Type 0} (w : ℕ) (t : A → Bool) (r : ℕ) (p : Reader A) → Within P s w p → Within P s w (must t r p)
+  unfolding must
+  must-within {A} w t r p hp at h = record { opens = hp at h .opens; ends = go (p .reads s at) refl }
+    where
+      kept : (a : A) (k : ℕ) → p .reads s at ≡ got a k → (u : Bool) (b : A) (n : ℕ) → pick u (got a k) (stop r) ≡ got b n → (n ≤ at + w) × P n
+      kept a k ef true b n e = hp at h .ends b n (ef ∙ e)
+      kept a k ef false b n e = absurd (stop≢got e)
+
+      go : (f : Found A) → p .reads s at ≡ f → (b : A) (n : ℕ) → keepOrStop t r f ≡ got b n → (n ≤ at + w) × P n
+      go no ef b n e = absurd (no≢got e)
+      go (stop q) ef b n e = absurd (stop≢got e)
       go (got a k) ef b n e = kept a k ef (t a) b n e
 
   pub map-spans : {A B : Type 0} (w at : ℕ) (t : A → B) (m : Bool) (f : Found A) → Spans P s w at m f → Spans P s w at m (mapFound t f)

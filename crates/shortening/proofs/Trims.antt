@@ -9,16 +9,16 @@ use native.Mathlib.Omega.{arith}
 use lib.ListN.{length, getD}
 use lib.Dec.{ltb, eqb}
 use borrow.Author.Tests.{ltb-false, eqb-true, not-true}
-use Rattle.parser.specs.Reading.{Found, no, got, stop, Reader, lit, seq, opt, alt, verify, map, give, pick, and}
+use Rattle.parser.specs.Reading.{Found, no, got, stop, Reader, lit, seq, opt, alt, verify, must, map, give, pick, and}
 use Rattle.parser.specs.Digits.{isDigit, runAt}
 use Rattle.parser.specs.Fields.{precededBy}
 use Rattle.parser.proofs.Fields.{true≢false}
 use Rattle.parser.proofs.Places.{no≢got, got-place, Bounded, Foreign, lit-bounded, lit-foreign}
 use Rattle.parser.proofs.Lawful.{most, told-apart}
 use Rattle.shortening.specs.Points.{isPoint}
-use Rattle.shortening.proofs.Cuts.{Cut, whole, kept, before, behind, Carried, Simulates, seq-simulates, opt-simulates, alt-simulates, verify-simulates, map-simulates, give-simulates}
+use Rattle.shortening.proofs.Cuts.{Cut, whole, kept, before, behind, Carried, Simulates, seq-simulates, opt-simulates, alt-simulates, verify-simulates, must-simulates, map-simulates, give-simulates}
 use Rattle.shortening.proofs.Local.{Local, local-behind, lit-local}
-use Rattle.shortening.proofs.Spans.{Spans, Within, seq-within, opt-within, alt-within, verify-within, map-within, give-within}
+use Rattle.shortening.proofs.Spans.{Spans, Within, seq-within, opt-within, alt-within, verify-within, must-within, map-within, give-within}
 
 -- what is left out: the leading zeros of digit runs, or a fraction's digits past the tenth
 pub data Family : Type 0 where
@@ -143,6 +143,9 @@ module _ {f : Family} where
 
   pub verify-trims : {A : Type 0} {w : ℕ} (t : A → Bool) {p : Reader A} → Trims f w p → Trims f w (verify t p)
   verify-trims {A} {w} t {p} hp = record { simulates = λ z. verify-simulates (cut f z) t p (hp .simulates z); within = λ s h. verify-within (Proper f s) s w t p (hp .within s h) }
+
+  pub must-trims : {A : Type 0} {w : ℕ} (t : A → Bool) (r : ℕ) {p : Reader A} → Trims f w p → Trims f w (must t r p)
+  must-trims {A} {w} t r {p} hp = record { simulates = λ z. must-simulates (cut f z) t r p (hp .simulates z); within = λ s h. must-within (Proper f s) s w t r p (hp .within s h) }
 
   pub map-trims : {A B : Type 0} {w : ℕ} (t : A → B) {p : Reader A} → Trims f w p → Trims f w (map t p)
   map-trims {A} {B} {w} t {p} hp = record { simulates = λ z. map-simulates (cut f z) t p (hp .simulates z); within = λ s h. map-within (Proper f s) s w t p (hp .within s h) }

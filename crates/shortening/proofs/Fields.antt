@@ -1,0 +1,46 @@
+-- A field takes so many bytes, and no comma or point.
+use Prim.Native.Nat.{ℕ, zero, suc, _+_, _*_, _-_, _≤_}
+use mathlib.Core.List.{List}
+use mathlib.Core.Bool.{Bool, true, false}
+use mathlib.Core.Path.{_≡_, refl, sym}
+use native.Mathlib.Omega.{arith}
+use lib.ListN.{length, getD}
+use lib.Dec.{ltb, leb, eqb}
+use borrow.Author.Tests.{ltb-false, eqb-true}
+use Rattle.parser.specs.Reading.{Found, no, got, pick, or, and}
+use Rattle.parser.specs.Digits.{isDigit, digitsFrom, digitsMore, field, reach}
+use Rattle.parser.proofs.Fields.{true≢false}
+use Rattle.parser.proofs.Places.{no≢got, got-place, field-bounded, field-foreign}
+use Rattle.shortening.specs.Points.{isPoint}
+use Rattle.shortening.proofs.Local.{field-local}
+use Rattle.shortening.proofs.Spans.{Spans}
+use Rattle.shortening.proofs.Trims.{fractions, Trims, foreign-simulates}
+
+pub point-no-digit : (b : ℕ) → isPoint b ≡ true → isDigit b ≡ false
+point-no-digit b h = go (eqb b 44) refl h
+  where
+    go : (t : Bool) → eqb b 44 ≡ t → or t (eqb b 46) ≡ true → isDigit b ≡ false
+    go true e h = rw (eqb-true b 44 e)
+    go false e h = rw (eqb-true b 46 h)
+
+-- a digit, and what stands behind it
+digit-spans : (s : List ℕ) (k at : ℕ) (m : Bool) (f : Found ℕ) (t u r : Bool) → ltb at (length s) ≡ t → Spans (λ _. Unit) s k (at + 1) m f → Spans (λ _. Unit) s (suc k) at (pick t (pick (and t u) m false) r) (pick (and t u) f no)
+digit-spans s k at m f true true r e h = record { opens = λ o. omega (arith, h .opens o); ends = λ a n g. (omega (arith, h .ends a n g .0), tt) }
+digit-spans s k at m f true false r e h = record { opens = λ o. absurd (true≢false (sym o)); ends = λ a n g. absurd (no≢got g) }
+digit-spans s k at m f false u r e h = record { opens = λ o. omega (arith, ltb-false at (length s) e); ends = λ a n g. absurd (no≢got g) }
+
+digits-spans : (lo hi n v : ℕ) (s : List ℕ) (at : ℕ) → Spans (λ _. Unit) s n at (digitsMore lo hi n v s at) (digitsFrom lo hi n v s at)
+unfolding digitsMore digitsFrom
+digits-spans lo hi zero v s at = record { opens = λ o. absurd (true≢false (sym o)); ends = λ a n e. (go a n (and (leb lo v) (leb v hi)) e, tt) }
+  where
+    go : (a n : ℕ) (t : Bool) → pick t (got v at) no ≡ got a n → n ≤ at + 0
+    go a n true e = omega (arith, got-place e)
+    go a n false e = absurd (no≢got e)
+digits-spans lo hi (suc k) v s at = digit-spans s k at _ _ (ltb at (length s)) (isDigit (getD s at 0)) (reach lo hi (suc k) v) refl (digits-spans lo hi k (v * 10 + (getD s at 0 - 48)) s (at + 1))
+
+pub field-trims : (n lo hi : ℕ) → Trims fractions n (field n lo hi)
+unfolding field
+field-trims n lo hi = record {
+  simulates = foreign-simulates fractions (field n lo hi) (field-local n lo hi) (field-bounded n lo hi) (field-foreign (λ b. isPoint b ≡ true) n lo hi point-no-digit);
+  within = λ s h at g. digits-spans lo hi n 0 s at;
+}
