@@ -7,6 +7,7 @@ use native.Mathlib.Omega.{arith}
 use native.Mathlib.Numerals.{add-one}
 use lib.ListN.{length, getD, set, take, drop, length-append, length-drop, drop-of-length-le}
 use lib.Seq.{take-all, drop-cons, drop-drop, take-at, drop-at, set-append-seam}
+use Rattle.types.specs.declared.Choices.{Choices}
 use Rattle.types.specs.declared.DateTime.{DateTime}
 use Rattle.parser.specs.Reading.{lit, and}
 use Rattle.parser.proofs.Fields.{and-first, and-second}
@@ -22,28 +23,29 @@ use Rattle.time_writer.specs.Ranges.{timeGiven}
 use Rattle.time_writer.proofs.Laws.{base-reads, base-yields}
 use Rattle.datetime_writer.specs.Ranges.{dateTimeGiven}
 
-pub date-given : (x : DateTime) → dateTimeGiven x ≡ true → dateGiven (x .date) ≡ true
-unfolding dateTimeGiven
-date-given x e = and-first (dateGiven (x .date)) (timeGiven (x .time)) e
+module _ (c : Choices) (x : DateTime) where
+  pub date-given : dateTimeGiven c x ≡ true → dateGiven (x .date) ≡ true
+  unfolding dateTimeGiven
+  date-given e = and-first (dateGiven (x .date)) (timeGiven c (x .time)) e
 
-pub time-given : (x : DateTime) → dateTimeGiven x ≡ true → timeGiven (x .time) ≡ true
-unfolding dateTimeGiven
-time-given x e = and-second (dateGiven (x .date)) e
+  pub time-given : dateTimeGiven c x ≡ true → timeGiven c (x .time) ≡ true
+  unfolding dateTimeGiven
+  time-given e = and-second (dateGiven (x .date)) e
 
-pub both-given : (x : DateTime) → dateGiven (x .date) ≡ true → timeGiven (x .time) ≡ true → dateTimeGiven x ≡ true
-unfolding dateTimeGiven
-both-given x e f = rw (e, f)
+  pub both-given : dateGiven (x .date) ≡ true → timeGiven c (x .time) ≡ true → dateTimeGiven c x ≡ true
+  unfolding dateTimeGiven
+  both-given e f = rw (e, f)
 
-dateTime-reads : (x : DateTime) → dateTimeGiven x ≡ true → ReadAs dateTime (dateTimeSpelling x) [] x
-unfolding dateTime afterDate timeOf dateTimeSpelling
-dateTime-reads x e = seq-reads _ (date-reads (x .date) _ (date-given x e)) (seq-reads _ (lit-reads 84 _) (map-reads _ (base-reads (x .time) (time-given x e))))
+  dateTime-reads : dateTimeGiven c x ≡ true → ReadAs (dateTime c) (dateTimeSpelling x) [] x
+  unfolding dateTime afterDate timeOf dateTimeSpelling
+  dateTime-reads e = seq-reads _ (date-reads (x .date) _ (date-given e)) (seq-reads _ (lit-reads 84 _) (map-reads _ (base-reads c (x .time) (time-given e))))
 
-dateTime-yields : Yields (λ x. dateTimeGiven x ≡ true) dateTime
+dateTime-yields : (c : Choices) → Yields (λ x. dateTimeGiven c x ≡ true) (dateTime c)
 unfolding dateTime afterDate timeOf
-dateTime-yields = seq-yields _ date-yields (λ d e. seq-yields _ (anything (lit 84)) (λ u z. map-yields _ (λ t f. both-given (stamp d t) e f) base-yields))
+dateTime-yields c = seq-yields _ date-yields (λ d e. seq-yields _ (anything (lit 84)) (λ u z. map-yields _ (λ t f. both-given c (stamp d t) e f) (base-yields c)))
 
-pub dateTime-spells : Spells dateTime dateTimeSpelling dateTimeGiven
-dateTime-spells = record { back = λ x e. whole (dateTime-reads x e); ranges = λ x r. dateTime-yields .fact (r .bytes) 0 x (r .count) (r .reads) }
+pub dateTime-spells : (c : Choices) → Spells (dateTime c) dateTimeSpelling (dateTimeGiven c)
+dateTime-spells c = record { back = λ x e. whole (dateTime-reads c x e); ranges = λ x r. dateTime-yields c .fact (r .bytes) 0 x (r .count) (r .reads) }
 
 -- ---- the date at the front of a buffer, the `T`, and the time in what lies behind
 

@@ -9,18 +9,19 @@ use date_writer::date_length;
 use date_writer::put_date;
 use time_writer::put_time;
 use time_writer::time_length;
+use types::Choices;
 use types::DateTime;
 use writing::Measured;
 use writing::Written;
 
 // The length of the date-time's spelling, where some reader gives the date-time.
-pub fn datetime_length(x: DateTime) -> Measured
-    ensures { λ r. ⌜ Measures dateTime x (dateTimeSpelling x) r ⌝ }
+pub fn datetime_length(x: DateTime, choices: Choices) -> Measured
+    ensures { λ r. ⌜ Measures (dateTime choices) x (dateTimeSpelling x) r ⌝ }
 {
     let date = x.date;
     let time = x.time;
     match date_length(date) {
-        Measured::Length(d) => match time_length(time) {
+        Measured::Length(d) => match time_length(time, choices) {
             Measured::Length(t) => Measured::Length(d + 1 + t),
             Measured::NoReader => Measured::NoReader,
         },
@@ -41,11 +42,11 @@ fn put_datetime(buffer: &mut [u8], x: DateTime)
     put_time(&mut buffer[from..], time);
 }
 
-// Writes the date-time's spelling to the front of the buffer.
-pub fn write_datetime(x: DateTime, buffer: &mut [u8]) -> Written
-    ensures { λ r. ⌜ Writes dateTime x (dateTimeSpelling x) (now (buffer .entry)) (now (buffer .exit)) r ⌝ }
+// Writes the date-time's spelling to the front of the buffer, for the edition that the caller names.
+pub fn write_datetime(x: DateTime, choices: Choices, buffer: &mut [u8]) -> Written
+    ensures { λ r. ⌜ Writes (dateTime choices) x (dateTimeSpelling x) (now (buffer .entry)) (now (buffer .exit)) r ⌝ }
 {
-    match datetime_length(x) {
+    match datetime_length(x, choices) {
         Measured::Length(count) => {
             if buffer.len() < count {
                 return Written::TooShort;

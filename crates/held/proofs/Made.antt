@@ -8,21 +8,23 @@ use native.Mathlib.Omega.{arith}
 use borrow.Author.Tests.{leb-true}
 use lib.Dec.{leb}
 use lib.IntN.{ℤ, pos, natAbs}
+use Rattle.types.specs.declared.Choices.{Choices}
 use Rattle.types.specs.declared.Offset.{Offset}
 use Rattle.types.specs.declared.TimeOffset.{TimeOffset}
 use Rattle.types.specs.declared.TimeOffset.the-variants.{Absent, Given}
 use Rattle.types.specs.declared.Time.{Time}
 use Rattle.types.specs.declared.Date.{Date}
 use Rattle.types.specs.declared.Date.the-variants.{YMD, Week, Ordinal}
-use Rattle.types.specs.declared.DateTime.{DateTime}
 use Rattle.parser.specs.Reading.{and, within}
 use Rattle.parser.proofs.Fields.{true≢false, and-first, and-second}
 use Rattle.slots.specs.Slots.{offsetSlots, timeOffsetSlots, timeSlots, dateSlots, dateTimeSlots}
 use Rattle.slots.proofs.Stores.{_then_}
 use Rattle.offset_writer.specs.Ranges.{offsetGiven}
-use Rattle.time_writer.specs.Ranges.{timeOffsetGiven, clockGiven, timeGiven}
+use Rattle.time_writer.specs.Ranges.{timeOffsetGiven, timeGiven}
+use Rattle.time_writer.proofs.Laws.{time-within, last-small, within-day}
 use Rattle.date_writer.specs.Ranges.{yearGiven, dateGiven}
 use Rattle.datetime_writer.specs.Ranges.{dateTimeGiven}
+use Rattle.datetime_writer.proofs.Laws.{date-given, time-given}
 use Rattle.held.specs.Held.{Natural, Integer, Made}
 
 -- ---- numbers
@@ -110,35 +112,27 @@ module _ {given hours minutes : ℤ} where
 
 -- ---- times
 
-record TimeWithin (t : Time) : Type 0 where
+record TimeSmall (t : Time) : Type 0 where
   hour : t .hour ≤ 999999999
   minute : t .minute ≤ 999999999
   second : t .second ≤ 999999999
   nanosecond : t .nanosecond ≤ 999999999
   offset : timeOffsetGiven (t .offset) ≡ true
 
-time-within : (t : Time) → timeGiven t ≡ true → TimeWithin t
-unfolding timeGiven clockGiven
-time-within t e =
-    let clock = and-first (clockGiven t) _ e in
-    let f = and-second (leb (t .hour) 23) clock in
-    let g = and-second (leb (t .minute) 59) f in
-    record {
-      hour = omega (arith, first-below (t .hour) 23 _ clock);
-      minute = omega (arith, first-below (t .minute) 59 _ f);
-      second = omega (arith, first-below (t .second) 60 _ g);
-      nanosecond = leb-true (t .nanosecond) 999999999 (and-second (leb (t .second) 60) g);
-      offset = and-second (clockGiven t) e;
-    }
+time-small : (c : Choices) (t : Time) → timeGiven c t ≡ true → TimeSmall t
+time-small c t e =
+    let w = time-within c t e in
+    let day = within-day _ (w .behind) in
+    record { hour = omega (arith, last-small (c .edition)); minute = omega arith; second = omega arith; nanosecond = omega arith; offset = w .offset }
 
-pub time-made : {hour minute second nanosecond : ℤ} {l : List ℤ} {h m s n : ℕ} {o : TimeOffset} → Natural hour h → Natural minute m → Natural second s → Natural nanosecond n → Made timeOffsetGiven timeOffsetSlots l o
-    → Made timeGiven timeSlots (hour ∷ minute ∷ second ∷ nanosecond ∷ l) (record { hour = h; minute = m; second = s; nanosecond = n; offset = o })
-time-made h m s n o = record {
+pub time-made : (c : Choices) {hour minute second nanosecond : ℤ} {l : List ℤ} {h m s n : ℕ} {o : TimeOffset} → Natural hour h → Natural minute m → Natural second s → Natural nanosecond n → Made timeOffsetGiven timeOffsetSlots l o
+    → Made (timeGiven c) timeSlots (hour ∷ minute ∷ second ∷ nanosecond ∷ l) (record { hour = h; minute = m; second = s; nanosecond = n; offset = o })
+time-made c h m s n o = record {
   found = λ t g e.
-      let w = time-within t g in
+      let w = time-small c t g in
       rw (natural-found h (t .hour) (w .hour) (cc), natural-found m (t .minute) (w .minute) (cc), natural-found s (t .second) (w .second) (cc), natural-found n (t .nanosecond) (w .nanosecond) (cc), o .found (t .offset) (w .offset) (cc));
   held = λ g.
-      let w = time-within _ g in
+      let w = time-small c _ g in
       natural-held h (w .hour) then natural-held m (w .minute) then natural-held s (w .second) then natural-held n (w .nanosecond) then o .held (w .offset);
 }
 
@@ -217,21 +211,16 @@ module _ {form year part day : ℤ} where
 
 -- ---- date-times
 
-both-given : (x : DateTime) → dateTimeGiven x ≡ true → (dateGiven (x .date) ≡ true) × (timeGiven (x .time) ≡ true)
-unfolding dateTimeGiven
-both-given x e = (and-first (dateGiven (x .date)) _ e, and-second (dateGiven (x .date)) e)
-
 module _ {a b c d : ℤ} {l : List ℤ} where
   apart : (x : Date) {m : List ℤ} → dateSlots x ++ m ≡ a ∷ b ∷ c ∷ d ∷ l → (dateSlots x ≡ a ∷ b ∷ c ∷ d ∷ []) × (m ≡ l)
   apart (YMD y m d) e = (cc, cc)
   apart (Week y w d) e = (cc, cc)
   apart (Ordinal y d) e = (cc, cc)
 
-  pub datetime-made : {x : Date} {t : Time} → Made dateGiven dateSlots (a ∷ b ∷ c ∷ d ∷ []) x → Made timeGiven timeSlots l t → Made dateTimeGiven dateTimeSlots (a ∷ b ∷ c ∷ d ∷ l) (record { date = x; time = t })
-  datetime-made {x} {t} h i = record {
+  pub datetime-made : (k : Choices) {x : Date} {t : Time} → Made dateGiven dateSlots (a ∷ b ∷ c ∷ d ∷ []) x → Made (timeGiven k) timeSlots l t → Made (dateTimeGiven k) dateTimeSlots (a ∷ b ∷ c ∷ d ∷ l) (record { date = x; time = t })
+  datetime-made k {x} {t} h i = record {
     found = λ y g e.
-        let both = both-given y g in
         let parts = apart (y .date) e in
-        rw (h .found (y .date) (both .0) (parts .0), i .found (y .time) (both .1) (parts .1));
-    held = λ g. let both = both-given _ g in rw (h .held (both .0), i .held (both .1));
+        rw (h .found (y .date) (date-given k y g) (parts .0), i .found (y .time) (time-given k y g) (parts .1));
+    held = λ g. rw (h .held (date-given k _ g), i .held (time-given k _ g));
   }

@@ -1,6 +1,7 @@
 // The record that slots hold, as a reader fills them. Of numbers that no reader fills in, a record is made that no reader gives.
 ghost use mathlib.Core.Path.{_≡_};
 ghost use mathlib.Core.List.{_∷_, []};
+ghost use Rattle.types.specs.declared.Choices.{Choices};
 ghost use Rattle.slots.specs.Slots.{offsetSlots, timeOffsetSlots, timeSlots, dateSlots};
 ghost use Rattle.offset_writer.specs.Ranges.{offsetGiven};
 ghost use Rattle.time_writer.specs.Ranges.{timeOffsetGiven, timeGiven};
@@ -74,6 +75,7 @@ fn time_offset_of(given: i64, hours: i64, minutes: i64) -> TimeOffset
     })
 }
 
+// One time, whatever the caller chooses: of hour 24 too, and its writer tells whether the edition has that.
 pub fn time_of(
     hour: i64,
     minute: i64,
@@ -83,7 +85,7 @@ pub fn time_of(
     hours: i64,
     minutes: i64,
 ) -> Time
-    ensures { λ r. ⌜ Made timeGiven timeSlots (hour ∷ minute ∷ second ∷ nanosecond ∷ given ∷ hours ∷ minutes ∷ []) r ⌝ }
+    ensures { λ r. ⌜ ((c : Choices) → Made (timeGiven c) timeSlots (hour ∷ minute ∷ second ∷ nanosecond ∷ given ∷ hours ∷ minutes ∷ []) r) ⌝ }
 {
     Time {
         hour: natural(hour),

@@ -13,6 +13,7 @@ ghost use Rattle.writing.specs.Writing.{countOf};
 ghost use Rattle.slot_writers.specs.Promise.{Tells, WritesFrom};
 use held::HeldDuration;
 use slots::TOO_FEW;
+use types::Choices;
 use types::DateTime;
 use writing::Written;
 
@@ -44,9 +45,9 @@ pub fn write_offset(slots: &mut [i64], text: &mut [u8]) -> u32
     tell(slots, written)
 }
 
-// Writes the time that the slots hold.
-pub fn write_time(slots: &mut [i64], text: &mut [u8]) -> u32
-    ensures { λ r. ⌜ WritesFrom 9 time timeSlots timeSpelling (now (slots .entry)) (now (slots .exit)) (now (text .entry)) (now (text .exit)) r ⌝ }
+// Writes the time that the slots hold, for the edition that the caller names.
+pub fn write_time(slots: &mut [i64], text: &mut [u8], choices: Choices) -> u32
+    ensures { λ r. ⌜ WritesFrom 9 (time choices) timeSlots timeSpelling (now (slots .entry)) (now (slots .exit)) (now (text .entry)) (now (text .exit)) r ⌝ }
 {
     if slots.len() < 9 {
         return TOO_FEW;
@@ -60,7 +61,7 @@ pub fn write_time(slots: &mut [i64], text: &mut [u8]) -> u32
         slots[7],
         slots[8],
     );
-    let written = time_writer::write_time(held, text);
+    let written = time_writer::write_time(held, choices, text);
     tell(slots, written)
 }
 
@@ -76,9 +77,9 @@ pub fn write_date(slots: &mut [i64], text: &mut [u8]) -> u32
     tell(slots, written)
 }
 
-// Writes the date-time that the slots hold.
-pub fn write_datetime(slots: &mut [i64], text: &mut [u8]) -> u32
-    ensures { λ r. ⌜ WritesFrom 13 dateTime dateTimeSlots dateTimeSpelling (now (slots .entry)) (now (slots .exit)) (now (text .entry)) (now (text .exit)) r ⌝ }
+// Writes the date-time that the slots hold, for the edition that the caller names.
+pub fn write_datetime(slots: &mut [i64], text: &mut [u8], choices: Choices) -> u32
+    ensures { λ r. ⌜ WritesFrom 13 (dateTime choices) dateTimeSlots dateTimeSpelling (now (slots .entry)) (now (slots .exit)) (now (text .entry)) (now (text .exit)) r ⌝ }
 {
     if slots.len() < 13 {
         return TOO_FEW;
@@ -94,7 +95,7 @@ pub fn write_datetime(slots: &mut [i64], text: &mut [u8]) -> u32
         slots[12],
     );
     let held = DateTime { date, time };
-    let written = datetime_writer::write_datetime(held, text);
+    let written = datetime_writer::write_datetime(held, choices, text);
     tell(slots, written)
 }
 

@@ -6,10 +6,12 @@ ghost use Rattle.time.specs.Rules.{time};
 ghost use Rattle.text.specs.Text.{Puts};
 ghost use Rattle.writing.specs.Spelling.{padded, clockSpelling, fractionSpelling, timeOffsetSpelling, timeSpelling};
 ghost use Rattle.writing.specs.Writing.{measure, Measures, Writes};
-ghost use Rattle.time_writer.specs.Ranges.{tailWidth, FractionWidth, timeOffsetGiven, clockGiven};
+ghost use Rattle.time_writer.specs.Ranges.{tailWidth, FractionWidth, timeOffsetGiven, behindGiven, clockGiven};
 use offset_writer::offset_length;
 use offset_writer::put_offset;
 use text::put_byte;
+use types::Choices;
+use types::Edition;
 use types::Time;
 use types::TimeOffset;
 use writing::Measured;
@@ -129,27 +131,41 @@ fn time_offset_length(o: TimeOffset) -> Measured
     }
 }
 
-// Whether the fields but the offset lie in their ranges.
-fn clock_given(t: Time) -> bool
-    ensures { λ r. ⌜ r ≡ clockGiven t ⌝ }
+// Whether the fields between the hour and the offset are at most these.
+fn behind_given(t: Time, minute: u32, second: u32, nanosecond: u32) -> bool
+    ensures { λ r. ⌜ r ≡ behindGiven minute second nanosecond t ⌝ }
 {
-    if 23 < t.hour {
+    if minute < t.minute {
         return false;
     }
-    if 59 < t.minute {
+    if second < t.second {
         return false;
     }
-    if 60 < t.second {
+    t.nanosecond <= nanosecond
+}
+
+// Whether the fields but the offset lie in their ranges. Hour 24 ends the day: only 2004 has it, and all behind it is 0.
+fn clock_given(t: Time, choices: Choices) -> bool
+    ensures { λ r. ⌜ r ≡ clockGiven (choices .edition) t ⌝ }
+{
+    if t.hour < 24 {
+        return behind_given(t, 59, 60, 999999999);
+    }
+    if 24 < t.hour {
         return false;
     }
-    t.nanosecond <= 999999999
+    let edition = choices.edition;
+    match edition {
+        Edition::E2004 => behind_given(t, 0, 0, 0),
+        Edition::E2019 => false,
+    }
 }
 
 // The length of the time's spelling, where some reader gives the time.
-pub fn time_length(t: Time) -> Measured
-    ensures { λ r. ⌜ Measures time t (timeSpelling t) r ⌝ }
+pub fn time_length(t: Time, choices: Choices) -> Measured
+    ensures { λ r. ⌜ Measures (time choices) t (timeSpelling t) r ⌝ }
 {
-    if clock_given(t) {
+    if clock_given(t, choices) {
         let offset = t.offset;
         match time_offset_length(offset) {
             Measured::Length(n) => Measured::Length(8 + fraction_length(t.nanosecond) + n),
@@ -160,11 +176,11 @@ pub fn time_length(t: Time) -> Measured
     }
 }
 
-// Writes the time's spelling to the front of the buffer.
-pub fn write_time(t: Time, buffer: &mut [u8]) -> Written
-    ensures { λ r. ⌜ Writes time t (timeSpelling t) (now (buffer .entry)) (now (buffer .exit)) r ⌝ }
+// Writes the time's spelling to the front of the buffer, for the edition that the caller names.
+pub fn write_time(t: Time, choices: Choices, buffer: &mut [u8]) -> Written
+    ensures { λ r. ⌜ Writes (time choices) t (timeSpelling t) (now (buffer .entry)) (now (buffer .exit)) r ⌝ }
 {
-    match time_length(t) {
+    match time_length(t, choices) {
         Measured::Length(count) => {
             if buffer.len() < count {
                 return Written::TooShort;

@@ -4,6 +4,7 @@ use mathlib.Core.List.{List}
 use mathlib.Core.Path.{_≡_, refl}
 use native.Mathlib.Omega.{arith}
 use lib.ListN.{length}
+use Rattle.types.specs.declared.Choices.{Choices}
 use Rattle.parser.specs.Reading.{got}
 use Rattle.parser.specs.Answer.{recorded, Ended}
 use Rattle.date.specs.Rules.{date}
@@ -15,7 +16,7 @@ use Rattle.kinds.specs.declared.answer.Kind.{Kind}
 use Rattle.kinds.specs.declared.answer.Kind.the-variants as kind
 use Rattle.kinds.specs.declared.answer.Record.{Record}
 use Rattle.kinds.specs.declared.answer.Record.the-variants as record-of
-use Rattle.kinds.specs.Kinds.{ruleOf}
+use Rattle.kinds.specs.Kinds.{ruleOf, choicesIn}
 use Rattle.kinds.proofs.As.{ends-as}
 use Rattle.writing.specs.Spelling.{offsetSpelling, timeSpelling, dateSpelling, dateTimeSpelling, durationSpelling}
 use Rattle.writing.specs.Writing.{Readable}
@@ -35,28 +36,28 @@ use Rattle.writers.specs.Spellings.{kindOf, spelling}
 use Rattle.writers.proofs.As.{readable-back}
 
 -- a kind's rule gives records of that kind
-of-kind : (k : Kind) → Yields (λ r. kindOf r ≡ k) (ruleOf k)
+of-kind : (k : Kind) → Yields (λ r. kindOf (choicesIn k) r ≡ k) (ruleOf k)
 of-kind kind.Date = map-yields _ (λ a z. refl) (anything date)
-of-kind kind.Time = map-yields _ (λ a z. refl) (anything time)
+of-kind (kind.Time c) = map-yields _ (λ a z. refl) (anything (time c))
 of-kind kind.Offset = map-yields _ (λ a z. refl) (anything offset)
-of-kind kind.Stamp = map-yields _ (λ a z. refl) (anything dateTime)
+of-kind (kind.Stamp c) = map-yields _ (λ a z. refl) (anything (dateTime c))
 of-kind kind.Duration = map-yields _ (λ a z. refl) (anything duration)
 
-pub kind-read : (k : Kind) (s : List ℕ) (r : Record) (n : ℕ) → ruleOf k .reads s 0 ≡ got r n → kindOf r ≡ k
+pub kind-read : (k : Kind) (s : List ℕ) (r : Record) (n : ℕ) → ruleOf k .reads s 0 ≡ got r n → kindOf (choicesIn k) r ≡ k
 kind-read k s r n e = of-kind k .fact s 0 r n e
 
 -- "A whole reading of what was written gives the record back"
-pub reads-back : (r : Record) → Readable (ruleOf (kindOf r)) r → Ended (ruleOf (kindOf r)) (spelling r) (recorded r (length (spelling r)))
-reads-back (record-of.Date v) h = ends-as record-of.Date date (dateSpelling v) refl (read-back date-spells v (readable-back record-of.Date (λ a b e. cc) h))
-reads-back (record-of.Time v) h = ends-as record-of.Time time (timeSpelling v) refl (read-back time-spells v (readable-back record-of.Time (λ a b e. cc) h))
-reads-back (record-of.Offset v) h = ends-as record-of.Offset offset (offsetSpelling v) refl (read-back offset-spells v (readable-back record-of.Offset (λ a b e. cc) h))
-reads-back (record-of.Stamp v) h = ends-as record-of.Stamp dateTime (dateTimeSpelling v) refl (read-back dateTime-spells v (readable-back record-of.Stamp (λ a b e. cc) h))
-reads-back (record-of.Duration v) h = ends-as record-of.Duration duration (durationSpelling v) refl (read-back duration-spells v (readable-back record-of.Duration (λ a b e. cc) h))
+pub reads-back : (c : Choices) (r : Record) → Readable (ruleOf (kindOf c r)) r → Ended (ruleOf (kindOf c r)) (spelling r) (recorded r (length (spelling r)))
+reads-back c (record-of.Date v) h = ends-as record-of.Date date (dateSpelling v) refl (read-back date-spells v (readable-back record-of.Date (λ a b e. cc) h))
+reads-back c (record-of.Time v) h = ends-as record-of.Time (time c) (timeSpelling v) refl (read-back (time-spells c) v (readable-back record-of.Time (λ a b e. cc) h))
+reads-back c (record-of.Offset v) h = ends-as record-of.Offset offset (offsetSpelling v) refl (read-back offset-spells v (readable-back record-of.Offset (λ a b e. cc) h))
+reads-back c (record-of.Stamp v) h = ends-as record-of.Stamp (dateTime c) (dateTimeSpelling v) refl (read-back (dateTime-spells c) v (readable-back record-of.Stamp (λ a b e. cc) h))
+reads-back c (record-of.Duration v) h = ends-as record-of.Duration duration (durationSpelling v) refl (read-back duration-spells v (readable-back record-of.Duration (λ a b e. cc) h))
 
 -- no spelling is longer than a duration's
-pub spelling-short : (r : Record) → Readable (ruleOf (kindOf r)) r → length (spelling r) ≤ 79
-spelling-short (record-of.Date v) h = omega (arith, date-short v)
-spelling-short (record-of.Time v) h = omega (arith, time-short v)
-spelling-short (record-of.Offset v) h = omega (arith, offset-short v)
-spelling-short (record-of.Stamp v) h = omega (arith, longest-stamp v)
-spelling-short (record-of.Duration v) h = longest-duration v (duration-spells .ranges v (readable-back record-of.Duration (λ a b e. cc) h))
+pub spelling-short : (c : Choices) (r : Record) → Readable (ruleOf (kindOf c r)) r → length (spelling r) ≤ 79
+spelling-short c (record-of.Date v) h = omega (arith, date-short v)
+spelling-short c (record-of.Time v) h = omega (arith, time-short v)
+spelling-short c (record-of.Offset v) h = omega (arith, offset-short v)
+spelling-short c (record-of.Stamp v) h = omega (arith, longest-stamp v)
+spelling-short c (record-of.Duration v) h = longest-duration v (duration-spells .ranges v (readable-back record-of.Duration (λ a b e. cc) h))

@@ -1,18 +1,20 @@
 -- The one spelling of a record of any kind.
 use Prim.Native.Nat.{ℕ}
 use mathlib.Core.List.{List}
+use Rattle.types.specs.declared.Choices.{Choices}
 use Rattle.kinds.specs.declared.answer.Kind.{Kind}
 use Rattle.kinds.specs.declared.answer.Kind.the-variants as kind
 use Rattle.kinds.specs.declared.answer.Record.{Record}
 use Rattle.kinds.specs.declared.answer.Record.the-variants as record-of
 use Rattle.writing.specs.Spelling.{offsetSpelling, timeSpelling, dateSpelling, dateTimeSpelling, durationSpelling}
 
-abbrev pub kindOf : Record → Kind
-kindOf (record-of.Date v) = kind.Date
-kindOf (record-of.Time v) = kind.Time
-kindOf (record-of.Offset v) = kind.Offset
-kindOf (record-of.Stamp v) = kind.Stamp
-kindOf (record-of.Duration v) = kind.Duration
+-- the kind of a record, under the choices
+abbrev pub kindOf : Choices → Record → Kind
+kindOf c (record-of.Date v) = kind.Date
+kindOf c (record-of.Time v) = kind.Time c
+kindOf c (record-of.Offset v) = kind.Offset
+kindOf c (record-of.Stamp v) = kind.Stamp c
+kindOf c (record-of.Duration v) = kind.Duration
 
 abbrev pub spelling : Record → List ℕ
 spelling (record-of.Date v) = dateSpelling v

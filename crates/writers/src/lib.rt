@@ -8,17 +8,18 @@ use duration_writer::write_duration;
 use kinds::answer::Record;
 use offset_writer::write_offset;
 use time_writer::write_time;
+use types::Choices;
 use writing::Written;
 
-// Writes the record's spelling to the front of the buffer.
-pub fn write(value: Record, buffer: &mut [u8]) -> Written
-    ensures { λ r. ⌜ Writes (ruleOf (kindOf value)) value (spelling value) (now (buffer .entry)) (now (buffer .exit)) r ⌝ }
+// Writes the record's spelling to the front of the buffer, under the choices.
+pub fn write(value: Record, choices: Choices, buffer: &mut [u8]) -> Written
+    ensures { λ r. ⌜ Writes (ruleOf (kindOf choices value)) value (spelling value) (now (buffer .entry)) (now (buffer .exit)) r ⌝ }
 {
     match value {
         Record::Date(v) => write_date(v, buffer),
-        Record::Time(v) => write_time(v, buffer),
+        Record::Time(v) => write_time(v, choices, buffer),
         Record::Offset(v) => write_offset(v, buffer),
-        Record::Stamp(v) => write_datetime(v, buffer),
+        Record::Stamp(v) => write_datetime(v, choices, buffer),
         Record::Duration(v) => write_duration(v, buffer),
     }
 }

@@ -12,7 +12,7 @@ use lib.ListN.{length, getD, length-append}
 use lib.Seq.{getD-append-seam, drop-append-seam}
 use Rattle.types.specs.Sums.{withSign}
 use Rattle.parser.specs.Reading.{no, got, lit, pick, within}
-use Rattle.parser.specs.Digits.{isDigit, digitsFrom, field, digits, numberFrom, number, runAt, limit, run, nanoseconds, fraction}
+use Rattle.parser.specs.Digits.{isDigit, digitsFrom, field, digits, numberFrom, number, runAt, limit, runUpTo, run, nanoseconds, fraction}
 use Rattle.parser.proofs.Fields.{DigitAt, digitsFrom-suc, digitsFrom-other, digitsFrom-end}
 use Rattle.parser.proofs.Runs.{number-append}
 use Rattle.parser.proofs.Leaves.{digit-is-not}
@@ -144,12 +144,12 @@ run-at : {d : List ℕ} (x : List ℕ) → AllDigits d → begins x ≡ false �
 run-at {d} x h o a = ap digits (drop-append-seam a (d ++ x)) ∙ run-here x h o
 
 pub run-reads : {d x : List ℕ} → AllDigits d → 0 < length d → begins x ≡ false → number d ≤ limit → ReadAs run d x (number d)
-unfolding run
+unfolding runUpTo
 run-reads none k o l = absurd (omega arith)
 run-reads (also {b} {d} hb h) k o l = record { reads = λ a. rw (run-at _ (also {b = b} {d = d} hb h) o a, le-leb (number (b ∷ d)) limit l) }
 
 pub run-refuses : {x : List ℕ} → begins x ≡ false → Refuses run x
-unfolding run
+unfolding runUpTo
 run-refuses o = record { finds = λ a. rw (run-at _ none o a) }
 
 pub fraction-reads : {d x : List ℕ} → AllDigits d → 0 < length d → begins x ≡ false → ReadAs fraction d x (nanoseconds d)

@@ -12,7 +12,7 @@ use lib.Dec.{eqb}
 use lib.ListN.{length, length-append}
 use lib.Seq.{getD-append-seam}
 use Rattle.parser.proofs.Alike.{Alike}
-use Rattle.parser.specs.Reading.{no, got, Reader, lit, seq, opt, alt, verify, map, give, and}
+use Rattle.parser.specs.Reading.{no, got, Reader, lit, seq, opt, alt, verify, must, map, give, and}
 
 -- the reader p reads the text t to the value v, where x stands behind it and whatever stands before it
 pub record ReadAs {A : Type 0} (p : Reader A) (t x : List ℕ) (v : A) : Type 0 where
@@ -82,6 +82,10 @@ module _ {A : Type 0} {p : Reader A} where
   pub verify-refuses : (f : A → Bool) {x : List ℕ} → Refuses p x → Refuses (verify f p) x
   unfolding verify
   verify-refuses f h = record { finds = λ a. rw (h .finds a) }
+
+  pub must-reads : (f : A → Bool) (r : ℕ) {t x : List ℕ} {v : A} → f v ≡ true → ReadAs p t x v → ReadAs (must f r p) t x v
+  unfolding must
+  must-reads f r e h = record { reads = λ a. rw (h .reads a, e) }
 
   pub opt-reads : {t x : List ℕ} {v : A} → ReadAs p t x v → ReadAs (opt p) t x (some v)
   unfolding opt

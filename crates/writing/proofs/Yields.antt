@@ -8,8 +8,8 @@ use native.Mathlib.Omega.{arith}
 use borrow.Author.Tests.{leb-true}
 use lib.Dec.{leb}
 use lib.ListN.{length}
-use Rattle.parser.specs.Reading.{Found, no, got, stop, Reader, then, lack, orElse, keep, mapFound, lit, seq, opt, alt, verify, map, give, pick}
-use Rattle.parser.specs.Digits.{field, number, runAt, ofRun, limit, run}
+use Rattle.parser.specs.Reading.{Found, no, got, stop, Reader, then, lack, orElse, keep, keepOrStop, mapFound, lit, seq, opt, alt, verify, must, map, give, pick}
+use Rattle.parser.specs.Digits.{field, number, runAt, ofRun, limit, runUpTo, run}
 use Rattle.parser.specs.Fields.{precededBy, orZero}
 use Rattle.parser.proofs.Places.{no≢got, stop≢got, got-value}
 use Rattle.parser.proofs.Leaves.{From, field-within}
@@ -31,6 +31,11 @@ module _ {A B : Type 0} {E : A → Type 0} {F : B → Type 0} {p : Reader A} (q 
       go s no b n g e = absurd (no≢got e)
       go s (stop r) b n g e = absurd (stop≢got e)
       go s (got a m) b n g e = k a (g a m refl) .fact s m b n e
+
+-- a value that is kept by a test passed it, where what stands for a failure is no value
+tested : {A : Type 0} {E F : A → Type 0} {a b : A} {n : ℕ} (f : A → Bool) → ((a : A) → E a → f a ≡ true → F a) → (x : Found A) (m : ℕ) → (x ≡ got b n → ⊥) → (t : Bool) → f a ≡ t → E a → pick t (got a m) x ≡ got b n → F b
+tested {a = a} {b = b} f i x m never true t g e = let same : a ≡ b = got-value e in rw (← same) (i a g t)
+tested f i x m never false t g e = absurd (never e)
 
 module _ {A : Type 0} {E : A → Type 0} {p : Reader A} where
   pub map-yields : {B : Type 0} {F : B → Type 0} (f : A → B) → ((a : A) → E a → F (f a)) → Yields E p → Yields F (map f p)
@@ -61,18 +66,24 @@ module _ {A : Type 0} {E : A → Type 0} {p : Reader A} where
       go (got a m) y b n g j e = g b n e
 
   -- and it passed the test
-  pub verify-yields : {F : A → Type 0} (f : A → Bool) → ((a : A) → E a → f a ≡ true → F a) → Yields E p → Yields F (verify f p)
-  unfolding verify
-  verify-yields {F} f i h = record { fact = λ s at b n e. go (p .reads s at) b n (h .fact s at) e }
-    where
-      test : (a b : A) (m n : ℕ) (t : Bool) → f a ≡ t → E a → pick t (got a m) no ≡ got b n → F b
-      test a b m n true t g e = let same : a ≡ b = got-value e in rw (← same) (i a g t)
-      test a b m n false t g e = absurd (no≢got e)
+  module _ {F : A → Type 0} (f : A → Bool) (i : (a : A) → E a → f a ≡ true → F a) where
+    pub verify-yields : Yields E p → Yields F (verify f p)
+    unfolding verify
+    verify-yields h = record { fact = λ s at b n e. go (p .reads s at) b n (h .fact s at) e }
+      where
+        go : (x : Found A) (b : A) (n : ℕ) → ((a : A) (m : ℕ) → x ≡ got a m → E a) → keep f x ≡ got b n → F b
+        go no b n g e = absurd (no≢got e)
+        go (stop r) b n g e = absurd (stop≢got e)
+        go (got a m) b n g e = tested f i no m no≢got (f a) refl (g a m refl) e
 
-      go : (x : Found A) (b : A) (n : ℕ) → ((a : A) (m : ℕ) → x ≡ got a m → E a) → keep f x ≡ got b n → F b
-      go no b n g e = absurd (no≢got e)
-      go (stop r) b n g e = absurd (stop≢got e)
-      go (got a m) b n g e = test a b m n (f a) refl (g a m refl) e
+    pub must-yields : (r : ℕ) → Yields E p → Yields F (must f r p)
+    unfolding must
+    must-yields r h = record { fact = λ s at b n e. go (p .reads s at) b n (h .fact s at) e }
+      where
+        go : (x : Found A) (b : A) (n : ℕ) → ((a : A) (m : ℕ) → x ≡ got a m → E a) → keepOrStop f r x ≡ got b n → F b
+        go no b n g e = absurd (no≢got e)
+        go (stop q) b n g e = absurd (stop≢got e)
+        go (got a m) b n g e = tested f i (stop r) m stop≢got (f a) refl (g a m refl) e
 
 pub give-yields : {A : Type 0} (F : A → Type 0) (a : A) → F a → Yields F (give a)
 unfolding give
@@ -99,14 +110,13 @@ pub absent-within : (hi : ℕ) (m : Option ℕ) → OrLeftOut (From 0 hi) m → 
 absent-within hi none f = omega arith
 absent-within hi (some v) f = f .1
 
-pub run-yields : Yields (λ v. v ≤ limit) run
-unfolding run
-run-yields = record { fact = λ s at a n e. go (runAt s at) at a n e }
+pub up-to-yields : (most r : ℕ) → Yields (λ v. v ≤ most) (runUpTo most r)
+unfolding runUpTo
+up-to-yields most r = record { fact = λ s at a n e. go (runAt s at) at a n e }
   where
-    test : (d : List ℕ) (at a n : ℕ) (t : Bool) → leb (number d) limit ≡ t → pick t (got (number d) (at + length d)) (stop 2) ≡ got a n → a ≤ limit
-    test d at a n true t e = let same : number d ≡ a = got-value e in rw (← same) (leb-true (number d) limit t)
-    test d at a n false t e = absurd (stop≢got e)
-
-    go : (d : List ℕ) (at a n : ℕ) → ofRun d no (pick (leb (number d) limit) (got (number d) (at + length d)) (stop 2)) ≡ got a n → a ≤ limit
+    go : (d : List ℕ) (at a n : ℕ) → ofRun d no (pick (leb (number d) most) (got (number d) (at + length d)) (stop r)) ≡ got a n → a ≤ most
     go [] at a n e = absurd (no≢got e)
-    go (b ∷ d) at a n e = test (b ∷ d) at a n (leb (number (b ∷ d)) limit) refl e
+    go (b ∷ d) at a n e = tested {E = Anything} (λ v. leb v most) (λ v z. leb-true v most) (stop r) _ stop≢got (leb (number (b ∷ d)) most) refl tt e
+
+pub run-yields : Yields (λ v. v ≤ limit) run
+run-yields = up-to-yields limit 2

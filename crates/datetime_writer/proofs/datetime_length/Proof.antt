@@ -2,6 +2,7 @@
 use Prim.Native.Nat.{ℕ}
 use native.Mathlib.Omega.{arith}
 use borrow.Author.Needs.{needs}
+use Rattle.types.specs.declared.Choices.{Choices}
 use Rattle.types.specs.declared.DateTime.{DateTime}
 use Rattle.date.specs.Rules.{date}
 use Rattle.time.specs.Rules.{time}
@@ -16,34 +17,40 @@ use Rattle.datetime_writer.proofs.datetime_length.Statement.{statement}
 use Rattle.datetime_writer.proofs.datetime_length.Tie as tie
 
 -- both were measured
-record Both (x : DateTime) (d t : ℕ) : Type 0 where
+record Both (k : Choices) (x : DateTime) (d t : ℕ) : Type 0 where
   day : Long date (x .date) (dateSpelling (x .date)) d
-  clock : Long time (x .time) (timeSpelling (x .time)) t
+  clock : Long (time k) (x .time) (timeSpelling (x .time)) t
 
-both : (c : tie.After-known-told2) → Both (c .before .before .before .before .before .before .before .before .before .args .x) (c .before .before .before .before .before .d .given .0 .0) (c .before .t .given .0 .0)
+both : (c : tie.After-known-told2) → Both (c .before .before .before .before .before .before .before .before .before .args .choices) (c .before .before .before .before .before .before .before .before .before .args .x) (c .before .before .before .before .before .d .given .0 .0) (c .before .t .given .0 .0)
 both c =
     let read = c .before .before .before in
     record {
       day = measured-long date-spells (read .before .before .before .before .date-length .ensures) (read .before .before .d .given .1);
-      clock = measured-long time-spells (read .time-length .ensures) (c .before .t .given .1);
+      clock = measured-long (time-spells _) (read .time-length .ensures) (c .before .t .given .1);
     }
 
 returns : tie.Need-returns
 returns c =
-    let x = c .before .before .before .before .before .before .before .before .before .args .x in
+    let args = c .before .before .before .before .before .before .before .before .before .args in
+    let x = args .x in
+    let k = args .choices in
     let b = both c in
-    long-measures (readable dateTime-spells x (both-given x (date-spells .ranges (x .date) (b .day .given)) (time-spells .ranges (x .time) (b .clock .given))))
+    long-measures (readable (dateTime-spells k) x (both-given k x (date-spells .ranges (x .date) (b .day .given)) (time-spells k .ranges (x .time) (b .clock .given))))
     (omega (arith, size-is x, b .day .size, b .clock .size))
 
 returns-2 : tie.Need-returns-2
 returns-2 c =
-    let x = c .before .before .before .before .before .before .before .before .args .x in
-    unread-measures (λ r. measured-none time-spells (c .before .before .time-length .ensures) (c .enum-told .given .1) (readable time-spells (x .time) (time-given x (dateTime-spells .ranges x r))))
+    let args = c .before .before .before .before .before .before .before .before .args in
+    let x = args .x in
+    let k = args .choices in
+    unread-measures (λ r. measured-none (time-spells k) (c .before .before .time-length .ensures) (c .enum-told .given .1) (readable (time-spells k) (x .time) (time-given k x (dateTime-spells k .ranges x r))))
 
 returns-3 : tie.Need-returns-3
 returns-3 c =
-    let x = c .before .before .before .before .args .x in
-    unread-measures (λ r. measured-none date-spells (c .before .before .date-length .ensures) (c .enum-told2 .given .1) (readable date-spells (x .date) (date-given x (dateTime-spells .ranges x r))))
+    let args = c .before .before .before .before .args in
+    let x = args .x in
+    let k = args .choices in
+    unread-measures (λ r. measured-none date-spells (c .before .before .date-length .ensures) (c .enum-told2 .given .1) (readable date-spells (x .date) (date-given k x (dateTime-spells k .ranges x r))))
 
 pub datetime-length-spec : {M : Type 1} → statement M
 datetime-length-spec =

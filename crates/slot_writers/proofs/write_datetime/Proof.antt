@@ -10,7 +10,7 @@ use Rattle.slot_writers.proofs.write_datetime.Statement.{statement}
 use Rattle.slot_writers.proofs.write_datetime.Tie as tie
 
 tell-requires : tie.Need-tell-requires
-tell-requires c κs = omega (arith, count-within dateTime-spells (c .before .before .before .write-datetime .ensures))
+tell-requires c κs = omega (arith, count-within (dateTime-spells _) (c .before .before .before .write-datetime .ensures))
 
 returns-2 : tie.Need-returns-2
 returns-2 c =
@@ -28,7 +28,9 @@ returns-2 c =
     let part = day .before in
     let year = part .before in
     let form = year .before in
-    let l = form .before .before .before .args .slots .now in
+    let args = form .before .before .before .args in
+    let l = args .slots .now in
+    let k = args .choices in
     let room = form .before .if1 .left in
     let held =
     (slot l room 2 10 (lit< tt) (form .date-of-arg .given)
@@ -42,7 +44,7 @@ returns-2 c =
     (slot l room 10 2 (lit< tt) (given .time-of-arg5 .given)
     (slot l room 11 1 (lit< tt) (hours .time-of-arg6 .given)
     (slot l room 12 0 (lit< tt) (minutes .time-of-arg7 .given) refl))))))))))) in
-    wrote dateTime-spells dateTime-length room (made-of held (datetime-made (date .date-of .ensures) (time .time-of .ensures))) (written .write-datetime .ensures) (c .before .tell .ensures)
+    wrote (dateTime-spells k) dateTime-length room (made-of held (datetime-made k (date .date-of .ensures) (time .time-of .ensures k))) (written .write-datetime .ensures) (c .before .tell .ensures)
 
 pub write-datetime-spec : {M : Type 1} → statement M
 write-datetime-spec =

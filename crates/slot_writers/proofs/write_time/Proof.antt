@@ -11,7 +11,7 @@ use Rattle.slot_writers.proofs.write_time.Statement.{statement}
 use Rattle.slot_writers.proofs.write_time.Tie as tie
 
 tell-requires : tie.Need-tell-requires
-tell-requires c κs = omega (arith, count-within time-spells (c .before .before .before .write-time .ensures))
+tell-requires c κs = omega (arith, count-within (time-spells _) (c .before .before .before .write-time .ensures))
 
 returns-2 : tie.Need-returns-2
 returns-2 c =
@@ -24,7 +24,9 @@ returns-2 c =
     let second = nanosecond .before in
     let minute = second .before in
     let hour = minute .before in
-    let l = hour .before .before .before .args .slots .now in
+    let args = hour .before .before .before .args in
+    let l = args .slots .now in
+    let k = args .choices in
     let room = hour .before .if1 .left in
     let held =
     (slot l room 2 6 (lit< tt) (hour .time-of-arg .given)
@@ -34,7 +36,7 @@ returns-2 c =
     (slot l room 6 2 (lit< tt) (given .time-of-arg5 .given)
     (slot l room 7 1 (lit< tt) (hours .time-of-arg6 .given)
     (slot l room 8 0 (lit< tt) (minutes .time-of-arg7 .given) refl))))))) in
-    wrote time-spells time-length room (made-of held (made .time-of .ensures)) (written .write-time .ensures) (c .before .tell .ensures)
+    wrote (time-spells k) time-length room (made-of held (made .time-of .ensures k)) (written .write-time .ensures) (c .before .tell .ensures)
 
 pub write-time-spec : {M : Type 1} → statement M
 write-time-spec =

@@ -3,6 +3,7 @@ use mathlib.Core.Path.{_≡_, sym, _∙_}
 use mathlib.Core.Bool.{true, false}
 use native.Mathlib.Omega.{arith}
 use borrow.Author.Needs.{needs}
+use Rattle.types.specs.declared.Choices.{Choices}
 use Rattle.types.specs.declared.Time.{Time}
 use Rattle.parser.proofs.Fields.{and-right}
 use Rattle.writing.proofs.Laws.{measure-long, measure-none, readable, not-readable, unread-measures, long-measures}
@@ -12,32 +13,36 @@ use Rattle.time_writer.proofs.Laws.{time-spells}
 use Rattle.time_writer.proofs.time_length.Statement.{statement}
 use Rattle.time_writer.proofs.time_length.Tie as tie
 
-given : (t : Time) → clockGiven t ≡ true → timeOffsetGiven (t .offset) ≡ true → timeGiven t ≡ true
-unfolding timeGiven
-given t e f = rw (e, f)
+module _ (k : Choices) (t : Time) where
+  given : clockGiven (k .edition) t ≡ true → timeOffsetGiven (t .offset) ≡ true → timeGiven k t ≡ true
+  unfolding timeGiven
+  given e f = rw (e, f)
 
-no-clock : (t : Time) → clockGiven t ≡ false → timeGiven t ≡ false
-unfolding timeGiven
-no-clock t e = rw e
+  no-clock : clockGiven (k .edition) t ≡ false → timeGiven k t ≡ false
+  unfolding timeGiven
+  no-clock e = rw e
 
-no-offset : (t : Time) → timeOffsetGiven (t .offset) ≡ false → timeGiven t ≡ false
-unfolding timeGiven
-no-offset t e = and-right (clockGiven t) e
+  no-offset : timeOffsetGiven (t .offset) ≡ false → timeGiven k t ≡ false
+  unfolding timeGiven
+  no-offset e = and-right (clockGiven (k .edition) t) e
 
 returns : tie.Need-returns
 returns c =
     let offset = c .before .before .before .before in
     let clock = offset .before in
-    let t = clock .before .before .args .t in
+    let args = clock .before .before .args in
+    let t = args .t in
+    let k = args .choices in
     let long = measure-long (timeOffsetGiven (t .offset)) (sym (offset .time-offset-length .ensures) ∙ c .before .before .n .given .1) in
-    long-measures (readable time-spells t (given t (sym (clock .before .clock-given .ensures) ∙ clock .if1 .taken) (long .0)))
+    long-measures (readable (time-spells k) t (given k t (sym (clock .before .clock-given .ensures) ∙ clock .if1 .taken) (long .0)))
     (sym (time-size t ∙ rw (← c .fraction-length .ensures, ← long .1)))
 
 returns-2 : tie.Need-returns-2
 returns-2 c =
     let offset = c .before .before in
-    let t = offset .before .before .before .args .t in
-    unread-measures (not-readable time-spells t (no-offset t (measure-none (timeOffsetGiven (t .offset)) _ (sym (offset .time-offset-length .ensures) ∙ c .enum-told .given .1))))
+    let args = offset .before .before .before .args in
+    let t = args .t in
+    unread-measures (not-readable (time-spells (args .choices)) t (no-offset _ t (measure-none (timeOffsetGiven (t .offset)) _ (sym (offset .time-offset-length .ensures) ∙ c .enum-told .given .1))))
 
 pub time-length-spec : {M : Type 1} → statement M
 time-length-spec =
@@ -53,4 +58,4 @@ time-length-spec =
     (λ c. search needs)
     returns
     returns-2
-    (λ c. unread-measures (not-readable time-spells _ (no-clock _ (sym (c .before .clock-given .ensures) ∙ c .if1 .left)))))
+    (λ c. unread-measures (not-readable (time-spells _) _ (no-clock _ _ (sym (c .before .clock-given .ensures) ∙ c .if1 .left)))))

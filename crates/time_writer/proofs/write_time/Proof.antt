@@ -8,17 +8,17 @@ use Rattle.time_writer.proofs.write_time.Tie as tie
 
 returns : tie.Need-returns
 returns c =
-    let long = measured-long time-spells (c .before .before .before .before .time-length .ensures) (c .before .before .count .given .1) in
+    let long = measured-long (time-spells _) (c .before .before .before .before .time-length .ensures) (c .before .before .count .given .1) in
     short-writes (long .given) (long .size) (c .if1 .taken)
 
 returns-2 : tie.Need-returns-2
 returns-2 c =
     let room = c .before .before .before .before in
-    let long = measured-long time-spells (room .before .before .before .before .time-length .ensures) (room .before .before .count .given .1) in
+    let long = measured-long (time-spells _) (room .before .before .before .before .time-length .ensures) (room .before .before .count .given .1) in
     put-writes (long .given) (long .size) (omega (arith, room .if1 .left)) (c .before .before .put-time .ensures)
 
 returns-3 : tie.Need-returns-3
-returns-3 c = unread-writes (measured-none time-spells (c .before .before .time-length .ensures) (c .enum-told .given .1))
+returns-3 c = unread-writes (measured-none (time-spells _) (c .before .before .time-length .ensures) (c .enum-told .given .1))
 
 pub write-time-spec : {M : Type 1} → statement M
 write-time-spec =
