@@ -5,7 +5,7 @@ use mathlib.Core.Bool.{Bool, true, false}
 use mathlib.Core.Path.{_≡_, refl}
 use native.Mathlib.Omega.{arith}
 use lib.Dec.{leb, eqb}
-use lib.ListN.{length, take, drop, length-append, length-drop}
+use lib.ListN.{length, take, length-append}
 use lib.Seq.{take-all, length-take-le}
 use borrow.Author.Tests.{leb-true, leb-false}
 use Rattle.types.specs.declared.Verdict.{Verdict}
@@ -19,7 +19,7 @@ use Rattle.kinds.specs.declared.answer.Letter.the-variants.{Names, Unknown}
 use Rattle.kinds.specs.Kinds.{ruleOf}
 use Rattle.words.specs.Words.{lettersOf, wordText}
 use Rattle.words.specs.Records.{verdictWord}
-use Rattle.reply.specs.Line.{recordOrDash, questionOf}
+use Rattle.reply.specs.Line.{recordOrDash, questionOf, textIn}
 use Rattle.reply.proofs.Asked.{names-short, long-unknown}
 use Rattle.reply.proofs.Short.{digits-short, text-short, record-few}
 use Rattle.cuts.specs.Cuts.{pieces, begunText, endText, SaysOf, SaysTo, Says, SaysLine}
@@ -62,20 +62,20 @@ says-short : (l t : List ℕ) → Says l t → length t ≤ 16000
 unfolding lettersOf
 says-short l t a = go (questionOf l) refl a
   where
-    go : (q : Letter) → questionOf l ≡ q → SaysTo q (drop 2 l) t → length t ≤ 16000
-    go (Names k) e a = omega (arith, said-short k (pieces (drop 2 l)) [] t a, pieces-few (drop 2 l), length-drop 2 l, names-short l k e)
+    go : (q : Letter) → questionOf l ≡ q → SaysTo q (textIn l) t → length t ≤ 16000
+    go (Names k) e a = omega (arith, said-short k (pieces (textIn l)) [] t a, pieces-few (textIn l), names-short l k e)
     go Unknown e a = rw a (omega arith)
 
 pub line-short : (l t : List ℕ) → SaysLine l t → length t ≤ 16384
 line-short l t a = rw (a .ends, length-append (a .said) (10 ∷ [])) (omega (arith, says-short l (a .said) (a .says)))
 
--- what is said of the first 203 bytes of a line, or more of them, is said of the line
-pub says-clip : (limit : ℕ) (l t : List ℕ) → 203 ≤ limit → SaysLine (take limit l) t → SaysLine l t
+-- what is said of the first 204 bytes of a line, or more of them, is said of the line
+pub says-clip : (limit : ℕ) (l t : List ℕ) → 204 ≤ limit → SaysLine (take limit l) t → SaysLine l t
 says-clip limit l t h a = step (leb (length l) limit) refl
   where
     step : (b : Bool) → leb (length l) limit ≡ b → SaysLine l t
     step true e = rw (take-all limit l (leb-true (length l) limit e)) at a
     step false e =
         let long : limit < length l = omega (arith, leb-false (length l) limit e) in
-        let clipped : 202 < length (take limit l) = rw (length-take-le limit l (omega arith)) (omega arith) in
+        let clipped : 203 < length (take limit l) = rw (length-take-le limit l (omega arith)) (omega arith) in
         record { said = a .said; says = rw (long-unknown l (omega arith)) (rw (long-unknown (take limit l) clipped) at (a .says)); ends = a .ends }

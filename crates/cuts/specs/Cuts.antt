@@ -2,7 +2,7 @@
 use Prim.Native.Nat.{ℕ}
 use mathlib.Core.List.{List, [], _∷_, _++_}
 use mathlib.Core.Path.{_≡_}
-use lib.ListN.{length, drop}
+use lib.ListN.{length}
 use Rattle.types.specs.declared.Verdict.{Verdict}
 use Rattle.parser.specs.Answer.{Told, begun, ended, Begins}
 use Rattle.kinds.specs.declared.answer.Kind.{Kind}
@@ -16,7 +16,7 @@ use Rattle.words.specs.declared.word.Name.the-variants as name
 use Rattle.words.specs.declared.word.Word.the-variants.{Number}
 use Rattle.words.specs.Words.{lettersOf, textOf}
 use Rattle.words.specs.Records.{verdictWord}
-use Rattle.reply.specs.Line.{recordOrDash, questionOf}
+use Rattle.reply.specs.Line.{recordOrDash, questionOf, textIn}
 
 -- "The text is cut into pieces by byte 124 (`|`)": the parts that such a byte ends, and the rest behind the last. That a split is right is
 -- proved of lines for any byte: put together again its parts are the text (`joined-by`), and none has the byte in it (`free-by`).
@@ -57,7 +57,7 @@ SaysTo (Names k) s t = SaysOf k [] (pieces s) t
 SaysTo Unknown s t = t ≡ lettersOf name.Unknown
 
 abbrev pub Says : List ℕ → List ℕ → Type 0
-Says l t = SaysTo (questionOf l) (drop 2 l) t
+Says l t = SaysTo (questionOf l) (textIn l) t
 
 -- with the byte 10 that ends its line
 pub record SaysLine (l t : List ℕ) : Type 0 where

@@ -77,8 +77,9 @@ fn say(line: &[u8], out: &mut [u8], at: usize) -> usize
     ensures { λ r. ⌜ Gives (Says (now (line .entry))) (now (out .entry)) at (now (out .exit)) r ⌝ }
 {
     let asked = reply::question(line);
+    let from = reply::head_of(line).from;
     match asked {
-        Letter::Names(kind) => say_pieces(kind, &line[2..], out, at),
+        Letter::Names(kind) => say_pieces(kind, &line[from..], out, at),
         Letter::Unknown => put_name(out, at, Name::Unknown),
     }
 }

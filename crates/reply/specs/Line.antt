@@ -1,11 +1,12 @@
 -- The answer to a line.
-use Prim.Native.Nat.{ℕ}
+use Prim.Native.Nat.{ℕ, _+_, _-_}
 use mathlib.Core.Bool.{Bool, true}
 use mathlib.Core.List.{List, [], _∷_, _++_}
 use mathlib.Core.Option.{Option, some, none}
 use mathlib.Core.Path.{_≡_}
 use lib.Dec.{leb, eqb}
 use lib.ListN.{length, getD, drop}
+use Rattle.types.specs.Editions.{document01, edition2004}
 use Rattle.types.specs.declared.Verdict.{Verdict}
 use Rattle.parser.specs.Reading.{pick}
 use Rattle.parser.specs.Answer.{Told, Begins, Ended}
@@ -20,6 +21,7 @@ use Rattle.text.specs.Text.{Puts, decimal}
 use Rattle.words.specs.Words.{lettersOf, textOf}
 use Rattle.words.specs.declared.word.Word.{Word}
 use Rattle.words.specs.declared.word.Word.the-variants.{Name as Named}
+use Rattle.reply.specs.declared.Head.{Head}
 use Rattle.words.specs.Records.{headWords, offsetWords, timeWords, dateWords, durationWords}
 
 -- "for a date-time the date's words, then the time's"
@@ -55,9 +57,21 @@ pub record Answered (shown : Bool) (k : Kind) (s t : List ℕ) : Type 0 where
   pub ends : Ended (ruleOf k) s whole
   pub says : t ≡ decimal (begun .number) ++ (textOf (headWords (begun .count) shown verdict (whole .number) (whole .count)) ++ textOf (recordOrDash (begun .value)))
 
--- "a letter, a space, and a text of at most 200 bytes"
-unfoldable pub questionOf : List ℕ → Letter
-questionOf l = pick (leb 2 (length l)) (pick (leb (length l) 202) (pick (eqb (getD l 1 0) 32) (letterOf (getD l 0 0)) Unknown) Unknown) Unknown
+-- "take `4` behind the letter for edition 2004": where the text of a line begins, behind its space, and what is chosen
+unfoldable pub headOf : List ℕ → Head
+headOf l = pick (eqb (getD l 1 0) 52) (record { from = 3; choices = edition2004 }) (record { from = 2; choices = document01 })
+
+-- "a letter [..], a space, and a text of at most 200 bytes"
+unfoldable pub questionIn : Head → List ℕ → Letter
+questionIn h l =
+    pick (leb (h .from) (length l)) (pick (leb (length l) (h .from + 200)) (pick (eqb (getD l (h .from - 1) 0) 32) (letterOf (h .choices) (getD l 0 0)) Unknown) Unknown)
+    Unknown
+
+abbrev pub questionOf : List ℕ → Letter
+questionOf l = questionIn (headOf l) l
+
+abbrev pub textIn : List ℕ → List ℕ
+textIn l = drop (headOf l .from) l
 
 -- "a line of any other form prints `unknown`"
 abbrev pub AnswersTo : Bool → Letter → List ℕ → List ℕ → Type 0
@@ -65,7 +79,7 @@ AnswersTo shown (Names k) s t = Answered shown k s t
 AnswersTo shown Unknown s t = t ≡ lettersOf name.Unknown
 
 abbrev pub Answers : Bool → List ℕ → List ℕ → Type 0
-Answers shown l t = AnswersTo shown (questionOf l) (drop 2 l) t
+Answers shown l t = AnswersTo shown (questionOf l) (textIn l) t
 
 -- an answer with its verdict, and the byte 10 that ends its line
 pub record AnswersLine (l t : List ℕ) : Type 0 where

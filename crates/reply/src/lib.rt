@@ -7,13 +7,15 @@ ghost use mathlib.Core.Path.{_≡_};
 ghost use Rattle.kinds.specs.Kinds.{told};
 ghost use Rattle.text.specs.Text.{Puts};
 ghost use Rattle.words.specs.Words.{textOf};
-ghost use Rattle.reply.specs.Line.{firstWords, recordWords, recordOrDash, Gives, Answered, questionOf, Answers, AnswersLine};
+ghost use Rattle.reply.specs.Line.{firstWords, recordWords, recordOrDash, Gives, Answered, headOf, questionOf, Answers, AnswersLine};
 use kinds::answer::Answer;
 use kinds::answer::Kind;
 use kinds::answer::Letter;
 use kinds::answer::Record;
 use text::put_byte;
 use text::put_decimal;
+use types::Choices;
+use types::Edition;
 use words::records;
 use words::rows::put_name;
 use words::rows::put_word;
@@ -80,20 +82,49 @@ fn answer_text(kind: Kind, s: &[u8], shown: bool, out: &mut [u8], at: usize) -> 
     put_told(out, next, begun)
 }
 
-// The kind that a line names, where it is a letter, a space and at most 200 bytes. Of a line that is too long the first bytes are enough.
+// What stands before the text of a line, up to its space: a letter, and `4` behind it for edition 2004.
+pub struct Head {
+    pub from: usize,
+    pub choices: Choices,
+}
+
+// The head of a line, if it has one: two bytes, or three where the second is a `4`.
+pub fn head_of(line: &[u8]) -> Head
+    ensures { λ r. ⌜ r ≡ headOf (now (line .entry)) ⌝ }
+{
+    if 1 < line.len() {
+        if line[1] == b'4' {
+            return Head {
+                from: 3,
+                choices: Choices {
+                    edition: Edition::E2004,
+                },
+            };
+        }
+    }
+    Head {
+        from: 2,
+        choices: Choices::DOCUMENT_01,
+    }
+}
+
+// The kind that a line names, where it is a head and at most 200 bytes. Of a line that is too long the first bytes are enough.
 pub fn question(line: &[u8]) -> Letter
     ensures { λ r. ⌜ r ≡ questionOf (now (line .entry)) ⌝ }
 {
-    if line.len() < 2 {
+    let head = head_of(line);
+    let from = head.from;
+    if line.len() < from {
         return Letter::Unknown;
     }
-    if 202 < line.len() {
+    if from + 200 < line.len() {
         return Letter::Unknown;
     }
-    if line[1] != b' ' {
+    if line[from - 1] != b' ' {
         return Letter::Unknown;
     }
-    kinds::kind_of(line[0])
+    let choices = head.choices;
+    kinds::kind_of(line[0], choices)
 }
 
 // The answer to a line without its end. `shown`: with the verdict, which no other library has.
@@ -101,8 +132,9 @@ pub fn answer(line: &[u8], shown: bool, out: &mut [u8], at: usize) -> usize
     ensures { λ r. ⌜ Gives (Answers shown (now (line .entry))) (now (out .entry)) at (now (out .exit)) r ⌝ }
 {
     let asked = question(line);
+    let from = head_of(line).from;
     match asked {
-        Letter::Names(kind) => answer_text(kind, &line[2..], shown, out, at),
+        Letter::Names(kind) => answer_text(kind, &line[from..], shown, out, at),
         Letter::Unknown => put_name(out, at, Name::Unknown),
     }
 }

@@ -10,7 +10,7 @@ use lib.Seq.{drop-cons, take-take, take-all, take-at}
 use Rattle.lines.specs.Lines.{between}
 use Rattle.text.specs.Text.{output, puts, Puts}
 use Rattle.text.proofs.Laws.{puts-fits, puts-clips}
-use Rattle.reply.specs.Line.{Answers, Gives, questionOf}
+use Rattle.reply.specs.Line.{Answers, Gives, headOf, questionOf}
 use Rattle.reply.proofs.Asked.{answers-clip}
 use Rattle.reply.proofs.Short.{answer-short}
 use Rattle.samples.specs.Samples.{nibbleOf, unhex, questionIn, Told, Tells, Compared}
@@ -54,24 +54,24 @@ module _ {hex old out : List ℕ} {at next i : ℕ} (left : Left hex old at out 
   unfolding puts
   left-none h = record { put = sym (rw (unhex-none hex i h) at (left .same)) }
 
--- the question: up to a tab that stands too early, or kind, space and text
+-- the question: up to a tab that stands too early, or head and text
 module _ (tab : ℕ) (l : List ℕ) where
-  pub early-question : tab < 2 → questionIn tab l ≡ take tab l
+  pub early-question : tab < headOf l .from → questionIn tab l ≡ take tab l
   unfolding questionIn
   early-question h =
-      let none : tab - 2 ≡ 0 = omega arith in
-      rw (none, append-nil (take 2 (take tab l))) (take-all 2 (take tab l) (rw (length-take tab l) (omega arith)))
+      let none : tab - headOf l .from ≡ 0 = omega arith in
+      rw (none, append-nil (take (headOf l .from) (take tab l))) (take-all (headOf l .from) (take tab l) (rw (length-take tab l) (omega arith)))
 
-  pub later-question : 2 ≤ tab → questionIn tab l ≡ take 2 l ++ unhex (between 2 tab l)
+  pub later-question : headOf l .from ≤ tab → questionIn tab l ≡ take (headOf l .from) l ++ unhex (between (headOf l .from) tab l)
   unfolding questionIn
-  later-question h = rw (take-take 2 tab l h)
+  later-question h = rw (take-take (headOf l .from) tab l h)
 
--- a question in a buffer of 203 bytes is answered as the question
-pub told-in : (l : List ℕ) (tab : ℕ) (ours : List ℕ) {old new : List ℕ} {n : ℕ} → length old ≡ 203 → Puts (questionIn tab l) old 0 new n → Answers false (take n new) ours → Told l tab ours
+-- a question in a buffer of 204 bytes is answered as the question
+pub told-in : (l : List ℕ) (tab : ℕ) (ours : List ℕ) {old new : List ℕ} {n : ℕ} → length old ≡ 204 → Puts (questionIn tab l) old 0 new n → Answers false (take n new) ours → Told l tab ours
 told-in l tab ours {old} {new} {n} size p a =
     let c = puts-clips p (omega arith) in
-    let same : take n new ≡ take 203 (questionIn tab l) = rw size at (c .front) in
-    answers-clip false 203 (questionIn tab l) ours (omega arith) (rw same at a)
+    let same : take n new ≡ take 204 (questionIn tab l) = rw size at (c .front) in
+    answers-clip false 204 (questionIn tab l) ours (omega arith) (rw same at a)
 
 -- our answer in a buffer of 400 bytes is all there
 ours-in : (l : List ℕ) (tab : ℕ) {old new : List ℕ} {n : ℕ} → length old ≡ 400 → (g : Gives (Told l tab) old 0 new n) → take n new ≡ g .text

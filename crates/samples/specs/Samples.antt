@@ -10,7 +10,7 @@ use Rattle.parser.specs.Reading.{pick}
 use Rattle.lines.specs.declared.Ended.{Ended}
 use Rattle.lines.specs.declared.Ended.the-variants.{At, Open}
 use Rattle.lines.specs.Lines.{placeOf, between}
-use Rattle.reply.specs.Line.{Answers}
+use Rattle.reply.specs.Line.{headOf, Answers}
 
 -- the number of a hexadecimal digit: of `0` to `9` the low four bits, of `a` to `f` these and nine
 abbrev pub nibbleOf : ℕ → ℕ
@@ -22,9 +22,9 @@ unhex [] = []
 unhex (a ∷ []) = []
 unhex (a ∷ b ∷ s) = (nibbleOf a * 16 + nibbleOf b) ∷ unhex s
 
--- the question of a line whose tab stands at a place: the kind, the space, and the text as bytes
+-- the question of a line whose tab stands at a place: the head, and the text as bytes
 unfoldable pub questionIn : ℕ → List ℕ → List ℕ
-questionIn tab l = take 2 (take tab l) ++ unhex (between 2 tab l)
+questionIn tab l = take (headOf l .from) (take tab l) ++ unhex (between (headOf l .from) tab l)
 
 -- what stands behind the tab
 abbrev pub theirs : ℕ → List ℕ → List ℕ

@@ -35,16 +35,17 @@ fn put_unhexed(out: &mut [u8], at: usize, hex: &[u8]) -> usize
     next
 }
 
-// Puts the question of a line whose tab stands at `tab`: its kind, its space, and its text as bytes.
+// Puts the question of a line whose tab stands at `tab`: its head, and its text as bytes.
 fn put_question(out: &mut [u8], line: &[u8], tab: usize) -> usize
     requires { ⌜ tab < length (now line) ⌝ }
     ensures { λ r. ⌜ Puts (questionIn tab (now (line .entry))) (now (out .entry)) 0 (now (out .exit)) r ⌝ }
 {
-    if tab < 2 {
+    let from = reply::head_of(line).from;
+    if tab < from {
         return put(out, 0, &line[..tab]);
     }
-    let next = put(out, 0, &line[..2]);
-    put_unhexed(out, next, &line[2..tab])
+    let next = put(out, 0, &line[..from]);
+    put_unhexed(out, next, &line[from..tab])
 }
 
 // Puts our answer to the question of a line.
@@ -52,7 +53,7 @@ fn put_ours(line: &[u8], tab: usize, out: &mut [u8]) -> usize
     requires { ⌜ tab < length (now line) ⌝ }
     ensures { λ r. ⌜ Gives (Told (now (line .entry)) tab) (now (out .entry)) 0 (now (out .exit)) r ⌝ }
 {
-    let mut question = [0u8; 203]; // one byte more than any question: a longer one is unknown
+    let mut question = [0u8; 204]; // one byte more than any question: a longer one is unknown
     let n = put_question(&mut question, line, tab);
     reply::answer(&question[..n], false, out, 0)
 }

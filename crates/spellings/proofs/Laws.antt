@@ -5,7 +5,7 @@ use mathlib.Core.Bool.{Bool, true, false}
 use mathlib.Core.Path.{_≡_, refl, sym}
 use native.Mathlib.Omega.{arith}
 use lib.Dec.{ltb, leb}
-use lib.ListN.{length, take, drop, length-append}
+use lib.ListN.{length, take, length-append}
 use lib.Seq.{take-all, length-take-le}
 use borrow.Author.Tests.{leb-true, leb-false}
 use Rattle.parser.specs.Reading.{Found, no, got, stop, pick}
@@ -15,10 +15,10 @@ use Rattle.kinds.specs.declared.answer.Kind.{Kind}
 use Rattle.kinds.specs.declared.answer.Record.{Record}
 use Rattle.kinds.specs.declared.answer.Letter.{Letter}
 use Rattle.kinds.specs.declared.answer.Letter.the-variants.{Names, Unknown}
-use Rattle.kinds.specs.Kinds.{ruleOf}
+use Rattle.kinds.specs.Kinds.{ruleOf, choicesIn}
 use Rattle.text.specs.Text.{decimal}
 use Rattle.words.specs.Words.{lettersOf}
-use Rattle.reply.specs.Line.{questionOf}
+use Rattle.reply.specs.Line.{questionOf, textIn}
 use Rattle.reply.proofs.Asked.{long-unknown}
 use Rattle.reply.proofs.Short.{digits-short}
 use Rattle.writing.specs.Writing.{Readable}
@@ -36,7 +36,7 @@ whole-got all (got b m) a n e = go (ltb m all) e
     go true e = absurd (recorded-or-refused (sym e))
     go false e = let x = recorded-once e in rw (x .0, x .1)
 
-pub whole-readable : (k : Kind) (s : List ℕ) (r : Record) (n : ℕ) → ended (length s) (ruleOf k .reads s 0) ≡ recorded r n → Readable (ruleOf (kindOf r)) r
+pub whole-readable : (k : Kind) (s : List ℕ) (r : Record) (n : ℕ) → ended (length s) (ruleOf k .reads s 0) ≡ recorded r n → Readable (ruleOf (kindOf (choicesIn k) r)) r
 whole-readable k s r n e =
     let found = whole-got (length s) (ruleOf k .reads s 0) r n e in
     rw (kind-read k s r n found) (record { bytes = s; count = n; reads = found })
@@ -50,7 +50,7 @@ said-short k s = go (ruleOf k .reads s 0) refl
   where
     whole : (r : Record) (n : ℕ) (t : Bool) → ruleOf k .reads s 0 ≡ got r n → length (said (pick t (refused 3 n) (recorded r n))) ≤ 79
     whole r n true e = refused-short 3
-    whole r n false e = spelling-short r (rw (kind-read k s r n e) (record { bytes = s; count = n; reads = e }))
+    whole r n false e = spelling-short (choicesIn k) r (rw (kind-read k s r n e) (record { bytes = s; count = n; reads = e }))
 
     go : (f : Found Record) → ruleOf k .reads s 0 ≡ f → length (said (ended (length s) f)) ≤ 79
     go no e = refused-short 1
@@ -61,17 +61,17 @@ pub line-short : (l : List ℕ) → length (spelledLine l) ≤ 512
 unfolding lettersOf
 line-short l = go (questionOf l)
   where
-    go : (q : Letter) → length (spelledAs q (drop 2 l) ++ 10 ∷ []) ≤ 512
-    go (Names k) = rw (length-append (said (ended (length (drop 2 l)) (ruleOf k .reads (drop 2 l) 0))) (10 ∷ [])) (omega (arith, said-short k (drop 2 l)))
+    go : (q : Letter) → length (spelledAs q (textIn l) ++ 10 ∷ []) ≤ 512
+    go (Names k) = rw (length-append (said (ended (length (textIn l)) (ruleOf k .reads (textIn l) 0))) (10 ∷ [])) (omega (arith, said-short k (textIn l)))
     go Unknown = omega arith
 
--- what is said of the first 203 bytes of a line, or more of them, is said of the line
-pub spelled-clip : (limit : ℕ) (l : List ℕ) → 203 ≤ limit → spelledLine (take limit l) ≡ spelledLine l
+-- what is said of the first 204 bytes of a line, or more of them, is said of the line
+pub spelled-clip : (limit : ℕ) (l : List ℕ) → 204 ≤ limit → spelledLine (take limit l) ≡ spelledLine l
 spelled-clip limit l h = step (leb (length l) limit) refl
   where
     step : (b : Bool) → leb (length l) limit ≡ b → spelledLine (take limit l) ≡ spelledLine l
     step true e = rw (take-all limit l (leb-true (length l) limit e))
     step false e =
         let long : limit < length l = omega (arith, leb-false (length l) limit e) in
-        let clipped : 202 < length (take limit l) = rw (length-take-le limit l (omega arith)) (omega arith) in
+        let clipped : 203 < length (take limit l) = rw (length-take-le limit l (omega arith)) (omega arith) in
         rw (long-unknown l (omega arith), long-unknown (take limit l) clipped)

@@ -2,7 +2,7 @@
 use Prim.Native.Nat.{ℕ}
 use mathlib.Core.List.{List, [], _∷_, _++_}
 use mathlib.Core.Option.{Option, some, none}
-use lib.ListN.{length, drop}
+use lib.ListN.{length}
 use Rattle.parser.specs.Answer.{Told, ended}
 use Rattle.kinds.specs.declared.answer.Record.{Record}
 use Rattle.kinds.specs.declared.answer.Letter.{Letter}
@@ -11,7 +11,7 @@ use Rattle.kinds.specs.Kinds.{ruleOf}
 use Rattle.text.specs.Text.{decimal}
 use Rattle.words.specs.declared.word.Name.the-variants as name
 use Rattle.words.specs.Words.{lettersOf}
-use Rattle.reply.specs.Line.{questionOf}
+use Rattle.reply.specs.Line.{questionOf, textIn}
 use Rattle.writers.specs.Spellings.{spelling}
 
 -- `refused` and a space
@@ -32,7 +32,7 @@ spelledAs (Names k) s = said (ended (length s) (ruleOf k .reads s 0))
 spelledAs Unknown s = lettersOf name.Unknown
 
 abbrev pub spelled : List ℕ → List ℕ
-spelled l = spelledAs (questionOf l) (drop 2 l)
+spelled l = spelledAs (questionOf l) (textIn l)
 
 -- with the byte 10 that ends its line
 abbrev pub spelledLine : List ℕ → List ℕ

@@ -13,18 +13,19 @@ use kinds::answer::Record;
 use text::put;
 use text::put_byte;
 use text::put_decimal;
+use types::Choices;
 use words::rows::put_name;
 use words::word::Name;
 
 // As long as the longest spelling, a duration's.
 const LONGEST: usize = 79;
 
-fn put_spelling(out: &mut [u8], at: usize, value: Record) -> usize
-    requires { ⌜ Readable (ruleOf (kindOf value)) value ⌝ }
+fn put_spelling(out: &mut [u8], at: usize, value: Record, choices: Choices) -> usize
+    requires { ⌜ Readable (ruleOf (kindOf choices value)) value ⌝ }
     ensures { λ r. ⌜ Puts (spelling value) (now (out .entry)) at (now (out .exit)) r ⌝ }
 {
     let mut text = [0u8; LONGEST];
-    let count = writers::write(value, &mut text).count();
+    let count = writers::write(value, choices, &mut text).count();
     put(out, at, &text[..count])
 }
 
@@ -33,7 +34,7 @@ fn spell_text(kind: Kind, s: &[u8], out: &mut [u8], at: usize) -> usize
 {
     let whole = kinds::parse(kind, s);
     match whole {
-        Answer::Record { value, count: _ } => put_spelling(out, at, value),
+        Answer::Record { value, count: _ } => put_spelling(out, at, value, kind.choices()),
         Answer::Refused { why: _, count: _ } => {
             let next = put(out, at, b"refused ");
             put_decimal(out, next, whole.number())
@@ -46,8 +47,9 @@ fn spell(line: &[u8], out: &mut [u8], at: usize) -> usize
     ensures { λ r. ⌜ Puts (spelled (now (line .entry))) (now (out .entry)) at (now (out .exit)) r ⌝ }
 {
     let asked = reply::question(line);
+    let from = reply::head_of(line).from;
     match asked {
-        Letter::Names(kind) => spell_text(kind, &line[2..], out, at),
+        Letter::Names(kind) => spell_text(kind, &line[from..], out, at),
         Letter::Unknown => put_name(out, at, Name::Unknown),
     }
 }

@@ -16,14 +16,14 @@ record Text (t buffer : List ℕ) (n : ℕ) : Type 0 where
   front : take n buffer ≡ t
   room : n ≤ length buffer
 
-text : (c : tie.After-count) → Text (spelling (c .before .before .before .before .before .args .value)) (c .before .before .write .last .1 .0) (c .count .result)
+text : (c : tie.After-count) → Text (spelling (c .before .before .before .before .before .args .value)) (c .before .before .write .last .1 .1 .0) (c .count .result)
 text c =
     let start = c .before .before .before .before .before in
     let t = spelling (start .args .value) in
-    let short = spelling-short (start .args .value) (start .pre) in
+    let short = spelling-short (start .args .choices) (start .args .value) (start .pre) in
     let leaves = c .before .before .write .ensures .fits (start .pre) short in
     let count = c .count .ensures ∙ leaves .count in
-    record { front = rw (count, leaves .buffer) (take-append-seam t (drop (length t) _)); room = omega (arith, count, short, c .before .before .write .kept .1 .0) }
+    record { front = rw (count, leaves .buffer) (take-append-seam t (drop (length t) _)); room = omega (arith, count, short, c .before .before .write .kept .1 .1 .0) }
 
 pub put-spelling-spec : {M : Type 1} → statement M
 put-spelling-spec =

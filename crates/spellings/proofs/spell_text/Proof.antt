@@ -9,14 +9,14 @@ use Rattle.spellings.proofs.spell_text.Tie as tie
 
 put-spelling-requires : tie.Need-put-spelling-requires
 put-spelling-requires c κs =
-    let read = c .before .before .before .before in
+    let read = c .before .before .before .before .before in
     let start = read .before .before .before in
-    whole-readable (start .args .kind) (start .args .s .now) _ (c .before .before .whole .given .0 .1 .0) (sym (read .parse .ensures) ∙ ap told (c .before .before .whole .given .1))
+    rw (c .choices .ensures) (whole-readable (start .args .kind) (start .args .s .now) _ (c .before .before .before .whole .given .0 .1 .0) (sym (read .parse .ensures) ∙ ap told (c .before .before .before .whole .given .1)))
 
 returns : tie.Need-returns
 returns c =
     let put = c .before .before in
-    let whole = put .before .before .before in
+    let whole = put .before .before .before .before in
     rw (← whole .before .before .parse .ensures, whole .whole .given .1) (put .put-spelling .ensures)
 
 returns-2 : tie.Need-returns-2
@@ -32,6 +32,7 @@ spell-text-spec =
     tie.close
     (tie.spec
     (λ c κs. search needs) (λ c. search needs)
+    (λ c κs. search needs)
     put-spelling-requires
     (λ c. search needs) (λ c. search needs) (λ c κs. search needs) (λ c κs. search needs) (λ c κs. search needs) (λ c. search needs)
     returns
