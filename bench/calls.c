@@ -24,14 +24,17 @@ typedef size_t counter(uint8_t letter, const uint8_t *text, size_t length);
     X(time_date) X(time_basic) X(time_week) X(time_ordinal) X(time_time) X(time_offset) X(time_datetime) X(time_stamp) \
     X(iso8601_date) X(iso8601_time) X(iso8601_datetime) X(iso8601_duration)
 #define OURS(X)                                                                                                        \
-    X(tirozhbar_date) X(tirozhbar_time) X(tirozhbar_offset) X(tirozhbar_datetime) X(tirozhbar_duration)                \
-    X(tirozhbar_parse_date) X(tirozhbar_parse_time) X(tirozhbar_parse_offset) X(tirozhbar_parse_datetime)              \
-    X(tirozhbar_parse_duration)
+    X(tirozhbar_date) X(tirozhbar_offset) X(tirozhbar_duration)                                                        \
+    X(tirozhbar_parse_date) X(tirozhbar_parse_offset) X(tirozhbar_parse_duration)
+/* Those of ours that take the caller's choices too. */
+#define OURS_CHOOSING(X)                                                                                               \
+    X(tirozhbar_time) X(tirozhbar_datetime) X(tirozhbar_parse_time) X(tirozhbar_parse_datetime)
 /* Each writer with the reader of what it writes, and the slot that this reader starts at: ours leaves two for its answer. */
 #define OUR_WRITERS(X)                                                                                                 \
-    X(tirozhbar_write_date, tirozhbar_date, 0) X(tirozhbar_write_time, tirozhbar_time, 0)                              \
-    X(tirozhbar_write_offset, tirozhbar_offset, 0) X(tirozhbar_write_datetime, tirozhbar_datetime, 0)                  \
+    X(tirozhbar_write_date, tirozhbar_date, 0) X(tirozhbar_write_offset, tirozhbar_offset, 0)                          \
     X(tirozhbar_write_duration, tirozhbar_duration, 0)
+#define OUR_WRITERS_CHOOSING(X)                                                                                        \
+    X(tirozhbar_write_time, tirozhbar_time, 0) X(tirozhbar_write_datetime, tirozhbar_datetime, 0)
 #define PEER_WRITERS(X)                                                                                                \
     X(chrono_write_date, chrono_date, 2) X(chrono_write_time, chrono_time, 2) X(chrono_write_stamp, chrono_stamp, 2)   \
     X(time_write_date, time_date, 2) X(time_write_time, time_time, 2) X(time_write_stamp, time_stamp, 2)               \
@@ -47,6 +50,18 @@ reader nothing;
 PEER_WRITERS(DECLARE_WRITER)
 #define DECLARE_COUNTER(NAME) counter NAME;
 COUNTERS(DECLARE_COUNTER)
+
+/* Document 01's choices are made here: that takes a call two instructions, which are counted as ours. */
+#define CHOOSE(NAME)                                                                                                   \
+    static uint32_t NAME##_2019(const uint8_t *text, size_t length, int64_t *slots, size_t room) {                    \
+        return NAME(text, length, slots, room, TIROZHBAR_2019);                                                        \
+    }
+OURS_CHOOSING(CHOOSE)
+#define CHOOSE_WRITER(NAME, READER, START)                                                                             \
+    static uint32_t NAME##_2019(int64_t *slots, size_t room, uint8_t *text, size_t length) {                          \
+        return NAME(slots, room, text, length, TIROZHBAR_2019);                                                        \
+    }
+OUR_WRITERS_CHOOSING(CHOOSE_WRITER)
 
 /* glibc's strptime, at the one form that each of these names. */
 static uint32_t by_strptime(const char *form, const uint8_t *text, int64_t *slots) {
@@ -71,19 +86,21 @@ static size_t count_nothing(uint8_t letter, const uint8_t *text, size_t length) 
 }
 
 #define ROW(NAME) {#NAME, NAME},
+#define ROW_2019(NAME) {#NAME, NAME##_2019},
 static const struct {
     const char *name;
     reader *reader;
-} readers[] = {OURS(ROW) PEERS(ROW) ROW(nothing) ROW(strptime_date) ROW(strptime_basic) ROW(strptime_week)
-                   ROW(strptime_ordinal) ROW(strptime_time) ROW(strptime_datetime)};
+} readers[] = {OURS(ROW) OURS_CHOOSING(ROW_2019) PEERS(ROW) ROW(nothing) ROW(strptime_date) ROW(strptime_basic)
+                   ROW(strptime_week) ROW(strptime_ordinal) ROW(strptime_time) ROW(strptime_datetime)};
 
 #define WRITER_ROW(NAME, READER, START) {#NAME, NAME, READER, START},
+#define WRITER_ROW_2019(NAME, READER, START) {#NAME, NAME##_2019, READER##_2019, START},
 static const struct {
     const char *name;
     writer *writer;
     reader *reader;
     size_t start;
-} writers[] = {OUR_WRITERS(WRITER_ROW) PEER_WRITERS(WRITER_ROW)};
+} writers[] = {OUR_WRITERS(WRITER_ROW) OUR_WRITERS_CHOOSING(WRITER_ROW_2019) PEER_WRITERS(WRITER_ROW)};
 
 static const struct {
     const char *name;

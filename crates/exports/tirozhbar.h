@@ -6,11 +6,12 @@
  *
  * A reader fills an array of ROOM slots and returns a number:
  *
- *     TIROZHBAR_RECORD     0  a record
- *     TIROZHBAR_NO_FORM    1  the bytes begin with no such form
- *     TIROZHBAR_TOO_BIG    2  a number of a duration is above 4294967295
- *     TIROZHBAR_LEFT_OVER  3  tirozhbar_parse_* alone: a record, but bytes are left over
- *     TIROZHBAR_TOO_FEW  255  ROOM is below the kind's number of slots; nothing was written
+ *     TIROZHBAR_RECORD            0  a record
+ *     TIROZHBAR_NO_FORM           1  the bytes begin with no such form
+ *     TIROZHBAR_TOO_BIG           2  a number of a duration is above 4294967295
+ *     TIROZHBAR_LEFT_OVER         3  tirozhbar_parse_* alone: a record, but bytes are left over
+ *     TIROZHBAR_NO_SUCH_CHOICE  254  CHOICES names none; nothing was written
+ *     TIROZHBAR_TOO_FEW         255  ROOM is below the kind's number of slots; nothing was written
  *
  * Slot 0 holds the bytes that the record takes (0 after 1 and 2, the form's bytes after 3). Slot 1 holds the verdict:
  *
@@ -24,12 +25,22 @@
  * A writer takes the record from slot 2 on, where a reader leaves it; it does not look at slot 1. It puts the record's one spelling at
  * the front of the LENGTH bytes at TEXT, the text's length into slot 0, and returns a number:
  *
- *     TIROZHBAR_RECORD     0  written
- *     TIROZHBAR_NO_READER  4  no reader leaves such slots; slot 0 is 0
- *     TIROZHBAR_TOO_SHORT  5  LENGTH is below the text's length; slot 0 is 0
- *     TIROZHBAR_TOO_FEW  255  ROOM is below the kind's number of slots; no slot was written
+ *     TIROZHBAR_RECORD            0  written
+ *     TIROZHBAR_NO_READER         4  no reader leaves such slots; slot 0 is 0
+ *     TIROZHBAR_TOO_SHORT         5  LENGTH is below the text's length; slot 0 is 0
+ *     TIROZHBAR_NO_SUCH_CHOICE  254  CHOICES names none; no slot was written
+ *     TIROZHBAR_TOO_FEW         255  ROOM is below the kind's number of slots; no slot was written
  *
  * After anything but 0 all bytes at TEXT are as they were, and the bytes behind the text always are. No 0 byte is put behind it.
+ *
+ * Times and date-times are read and written under CHOICES, a number that names the edition of ISO 8601:
+ *
+ *     TIROZHBAR_2019              0  hours are 00 to 23
+ *     TIROZHBAR_2004              1  so is 24, the end of a day
+ *
+ * Any other number gets 254, before ROOM is looked at. Under 2004 hour 24 is a record if the minute and the second that are read and every
+ * digit of the fraction are 0; else the number is 1. The record's hour is 24, and a date-time keeps the date that stands before it. Such a
+ * record is written for 2004 alone: for 2019 no reader leaves it, and the number is 4.
  */
 #ifndef TIROZHBAR_H
 #define TIROZHBAR_H
@@ -48,8 +59,12 @@ enum {
     TIROZHBAR_LEFT_OVER = 3,
     TIROZHBAR_NO_READER = 4,
     TIROZHBAR_TOO_SHORT = 5,
+    TIROZHBAR_NO_SUCH_CHOICE = 254,
     TIROZHBAR_TOO_FEW = 255
 };
+
+/* The choices. */
+enum { TIROZHBAR_2019 = 0, TIROZHBAR_2004 = 1 };
 
 enum { TIROZHBAR_SETTLED = 0, TIROZHBAR_OPEN = 1, TIROZHBAR_NO_VERDICT = -1 };
 
@@ -116,9 +131,9 @@ uint32_t tirozhbar_offset(const uint8_t *text, size_t length, int64_t *slots, si
 uint32_t tirozhbar_parse_offset(const uint8_t *text, size_t length, int64_t *slots, size_t room);
 
 /* The time that the text begins with: T21:56:42.123+01:00, or less of it. 9 slots. */
-uint32_t tirozhbar_time(const uint8_t *text, size_t length, int64_t *slots, size_t room);
+uint32_t tirozhbar_time(const uint8_t *text, size_t length, int64_t *slots, size_t room, uint32_t choices);
 /* A text that is one time from its first byte to its last. 9 slots. */
-uint32_t tirozhbar_parse_time(const uint8_t *text, size_t length, int64_t *slots, size_t room);
+uint32_t tirozhbar_parse_time(const uint8_t *text, size_t length, int64_t *slots, size_t room, uint32_t choices);
 
 /* The date that the text begins with: 2015-11-02, 20151102, 2015-W45-1, 2015-306. 6 slots. */
 uint32_t tirozhbar_date(const uint8_t *text, size_t length, int64_t *slots, size_t room);
@@ -126,9 +141,9 @@ uint32_t tirozhbar_date(const uint8_t *text, size_t length, int64_t *slots, size
 uint32_t tirozhbar_parse_date(const uint8_t *text, size_t length, int64_t *slots, size_t room);
 
 /* The date-time that the text begins with: a date, T, a time. 13 slots. */
-uint32_t tirozhbar_datetime(const uint8_t *text, size_t length, int64_t *slots, size_t room);
+uint32_t tirozhbar_datetime(const uint8_t *text, size_t length, int64_t *slots, size_t room, uint32_t choices);
 /* A text that is one date-time from its first byte to its last. 13 slots. */
-uint32_t tirozhbar_parse_datetime(const uint8_t *text, size_t length, int64_t *slots, size_t room);
+uint32_t tirozhbar_parse_datetime(const uint8_t *text, size_t length, int64_t *slots, size_t room, uint32_t choices);
 
 /* The duration that the text begins with: P1Y2M3DT4H5M6S, P5W. 9 slots. */
 uint32_t tirozhbar_duration(const uint8_t *text, size_t length, int64_t *slots, size_t room);
@@ -147,11 +162,11 @@ enum {
 /* Z, or a sign and HH:MM. 4 slots. */
 uint32_t tirozhbar_write_offset(int64_t *slots, size_t room, uint8_t *text, size_t length);
 /* HH:MM:SS, a point and the fraction without trailing zeros if it is not 0, then nothing or the offset. 9 slots. */
-uint32_t tirozhbar_write_time(int64_t *slots, size_t room, uint8_t *text, size_t length);
+uint32_t tirozhbar_write_time(int64_t *slots, size_t room, uint8_t *text, size_t length, uint32_t choices);
 /* YYYY-MM-DD, YYYY-Www-D or YYYY-DDD by the form, with - in front of a negative year. 6 slots. */
 uint32_t tirozhbar_write_date(int64_t *slots, size_t room, uint8_t *text, size_t length);
 /* The date, T and the time. 13 slots. */
-uint32_t tirozhbar_write_datetime(int64_t *slots, size_t room, uint8_t *text, size_t length);
+uint32_t tirozhbar_write_datetime(int64_t *slots, size_t room, uint8_t *text, size_t length, uint32_t choices);
 /* The parts that are not 0, with T before time parts; PT0S where all are 0. 9 slots. */
 uint32_t tirozhbar_write_duration(int64_t *slots, size_t room, uint8_t *text, size_t length);
 

@@ -1,6 +1,7 @@
 // The readers and writers for C. A reader takes the bytes and an array of slots, fills the slots and returns the paper's number. A writer
-// takes the record from slots as a reader fills them, puts its text into a buffer and returns the paper's number. The layout of the slots
-// stands in slots' specs/Slots.antt and, for C, in tirozhbar.h.
+// takes the record from slots as a reader fills them, puts its text into a buffer and returns the paper's number. Of times and date-times
+// a number names the caller's choices; one that names none is refused before anything else is looked at. The layout of the slots stands in
+// slots' specs/Slots.antt, the numbers in its specs/Choosing.antt, and both, for C, in tirozhbar.h.
 ghost use Rattle.offset.specs.Rules.{offset};
 ghost use Rattle.time.specs.Rules.{time};
 ghost use Rattle.date.specs.Rules.{date};
@@ -10,6 +11,9 @@ ghost use Rattle.slots.specs.Slots.{offsetSlots, timeSlots, dateSlots, dateTime
 ghost use Rattle.slot_readers.specs.Promises.{BeginsIn, EndsIn};
 ghost use Rattle.writing.specs.Spelling.{offsetSpelling, timeSpelling, dateSpelling, dateTimeSpelling, durationSpelling};
 ghost use Rattle.slot_writers.specs.Promise.{WritesFrom};
+ghost use Rattle.exports.specs.Promises.{BeginsUnder, EndsUnder, WritesUnder};
+use slots::Chosen;
+use slots::NO_SUCH_CHOICE;
 
 // Reads the offset that the bytes begin with.
 #[no_mangle]
@@ -29,18 +33,26 @@ pub extern "C" fn tirozhbar_parse_offset(s: &[u8], slots: &mut [i64]) -> u32
 
 // Reads the time that the bytes begin with.
 #[no_mangle]
-pub extern "C" fn tirozhbar_time(s: &[u8], slots: &mut [i64]) -> u32
-    ensures { λ r. ⌜ BeginsIn 9 3 time timeSlots (now (s .entry)) (now (slots .entry)) (now (slots .exit)) r ⌝ }
+pub extern "C" fn tirozhbar_time(s: &[u8], slots: &mut [i64], choices: u32) -> u32
+    ensures { λ r. ⌜ BeginsUnder 9 3 time timeSlots choices (now (s .entry)) (now (slots .entry)) (now (slots .exit)) r ⌝ }
 {
-    slot_readers::time(s, slots)
+    let chosen = slots::choices_of(choices);
+    match chosen {
+        Chosen::Names(named) => slot_readers::time(s, slots, named),
+        Chosen::Unknown => NO_SUCH_CHOICE,
+    }
 }
 
 // Reads bytes that are one time from the first to the last.
 #[no_mangle]
-pub extern "C" fn tirozhbar_parse_time(s: &[u8], slots: &mut [i64]) -> u32
-    ensures { λ r. ⌜ EndsIn 9 time timeSlots (now (s .entry)) (now (slots .entry)) (now (slots .exit)) r ⌝ }
+pub extern "C" fn tirozhbar_parse_time(s: &[u8], slots: &mut [i64], choices: u32) -> u32
+    ensures { λ r. ⌜ EndsUnder 9 time timeSlots choices (now (s .entry)) (now (slots .entry)) (now (slots .exit)) r ⌝ }
 {
-    slot_readers::parse_time(s, slots)
+    let chosen = slots::choices_of(choices);
+    match chosen {
+        Chosen::Names(named) => slot_readers::parse_time(s, slots, named),
+        Chosen::Unknown => NO_SUCH_CHOICE,
+    }
 }
 
 // Reads the date that the bytes begin with.
@@ -61,18 +73,26 @@ pub extern "C" fn tirozhbar_parse_date(s: &[u8], slots: &mut [i64]) -> u32
 
 // Reads the date-time that the bytes begin with.
 #[no_mangle]
-pub extern "C" fn tirozhbar_datetime(s: &[u8], slots: &mut [i64]) -> u32
-    ensures { λ r. ⌜ BeginsIn 13 10 dateTime dateTimeSlots (now (s .entry)) (now (slots .entry)) (now (slots .exit)) r ⌝ }
+pub extern "C" fn tirozhbar_datetime(s: &[u8], slots: &mut [i64], choices: u32) -> u32
+    ensures { λ r. ⌜ BeginsUnder 13 10 dateTime dateTimeSlots choices (now (s .entry)) (now (slots .entry)) (now (slots .exit)) r ⌝ }
 {
-    slot_readers::datetime(s, slots)
+    let chosen = slots::choices_of(choices);
+    match chosen {
+        Chosen::Names(named) => slot_readers::datetime(s, slots, named),
+        Chosen::Unknown => NO_SUCH_CHOICE,
+    }
 }
 
 // Reads bytes that are one date-time from the first to the last.
 #[no_mangle]
-pub extern "C" fn tirozhbar_parse_datetime(s: &[u8], slots: &mut [i64]) -> u32
-    ensures { λ r. ⌜ EndsIn 13 dateTime dateTimeSlots (now (s .entry)) (now (slots .entry)) (now (slots .exit)) r ⌝ }
+pub extern "C" fn tirozhbar_parse_datetime(s: &[u8], slots: &mut [i64], choices: u32) -> u32
+    ensures { λ r. ⌜ EndsUnder 13 dateTime dateTimeSlots choices (now (s .entry)) (now (slots .entry)) (now (slots .exit)) r ⌝ }
 {
-    slot_readers::parse_datetime(s, slots)
+    let chosen = slots::choices_of(choices);
+    match chosen {
+        Chosen::Names(named) => slot_readers::parse_datetime(s, slots, named),
+        Chosen::Unknown => NO_SUCH_CHOICE,
+    }
 }
 
 // Reads the duration that the bytes begin with.
@@ -101,10 +121,14 @@ pub extern "C" fn tirozhbar_write_offset(slots: &mut [i64], text: &mut [u8]) -> 
 
 // Writes the time that the slots hold.
 #[no_mangle]
-pub extern "C" fn tirozhbar_write_time(slots: &mut [i64], text: &mut [u8]) -> u32
-    ensures { λ r. ⌜ WritesFrom 9 time timeSlots timeSpelling (now (slots .entry)) (now (slots .exit)) (now (text .entry)) (now (text .exit)) r ⌝ }
+pub extern "C" fn tirozhbar_write_time(slots: &mut [i64], text: &mut [u8], choices: u32) -> u32
+    ensures { λ r. ⌜ WritesUnder 9 time timeSlots timeSpelling choices (now (slots .entry)) (now (slots .exit)) (now (text .entry)) (now (text .exit)) r ⌝ }
 {
-    slot_writers::write_time(slots, text)
+    let chosen = slots::choices_of(choices);
+    match chosen {
+        Chosen::Names(named) => slot_writers::write_time(slots, text, named),
+        Chosen::Unknown => NO_SUCH_CHOICE,
+    }
 }
 
 // Writes the date that the slots hold.
@@ -117,10 +141,14 @@ pub extern "C" fn tirozhbar_write_date(slots: &mut [i64], text: &mut [u8]) -> u3
 
 // Writes the date-time that the slots hold.
 #[no_mangle]
-pub extern "C" fn tirozhbar_write_datetime(slots: &mut [i64], text: &mut [u8]) -> u32
-    ensures { λ r. ⌜ WritesFrom 13 dateTime dateTimeSlots dateTimeSpelling (now (slots .entry)) (now (slots .exit)) (now (text .entry)) (now (text .exit)) r ⌝ }
+pub extern "C" fn tirozhbar_write_datetime(slots: &mut [i64], text: &mut [u8], choices: u32) -> u32
+    ensures { λ r. ⌜ WritesUnder 13 dateTime dateTimeSlots dateTimeSpelling choices (now (slots .entry)) (now (slots .exit)) (now (text .entry)) (now (text .exit)) r ⌝ }
 {
-    slot_writers::write_datetime(slots, text)
+    let chosen = slots::choices_of(choices);
+    match chosen {
+        Chosen::Names(named) => slot_writers::write_datetime(slots, text, named),
+        Chosen::Unknown => NO_SUCH_CHOICE,
+    }
 }
 
 // Writes the duration that the slots hold.

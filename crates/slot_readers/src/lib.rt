@@ -13,6 +13,7 @@ use durations::DurationAnswer;
 use offsets::OffsetAnswer;
 use slots::TOO_FEW;
 use times::TimeAnswer;
+use types::Choices;
 
 // The verdict slot of a whole reader, which gives none.
 const NO_VERDICT: i64 = -1;
@@ -49,13 +50,13 @@ pub fn parse_offset(s: &[u8], slots: &mut [i64]) -> u32
 }
 
 // Reads the time that the bytes begin with.
-pub fn time(s: &[u8], slots: &mut [i64]) -> u32
-    ensures { λ r. ⌜ BeginsIn 9 3 time timeSlots (now (s .entry)) (now (slots .entry)) (now (slots .exit)) r ⌝ }
+pub fn time(s: &[u8], slots: &mut [i64], choices: Choices) -> u32
+    ensures { λ r. ⌜ BeginsIn 9 3 (time choices) timeSlots (now (s .entry)) (now (slots .entry)) (now (slots .exit)) r ⌝ }
 {
     if slots.len() < 9 {
         return TOO_FEW;
     }
-    let read = times::time(s);
+    let read = times::time(s, choices);
     let judged = read.verdict;
     let verdict = slots::verdict_slot(judged);
     let answer = read.answer;
@@ -66,13 +67,13 @@ pub fn time(s: &[u8], slots: &mut [i64]) -> u32
 }
 
 // Reads bytes that are one time from the first to the last.
-pub fn parse_time(s: &[u8], slots: &mut [i64]) -> u32
-    ensures { λ r. ⌜ EndsIn 9 time timeSlots (now (s .entry)) (now (slots .entry)) (now (slots .exit)) r ⌝ }
+pub fn parse_time(s: &[u8], slots: &mut [i64], choices: Choices) -> u32
+    ensures { λ r. ⌜ EndsIn 9 (time choices) timeSlots (now (s .entry)) (now (slots .entry)) (now (slots .exit)) r ⌝ }
 {
     if slots.len() < 9 {
         return TOO_FEW;
     }
-    let answer = times::parse_time(s);
+    let answer = times::parse_time(s, choices);
     match answer {
         TimeAnswer::Record { value, count } => slots::put_time(slots, count, NO_VERDICT, value),
         TimeAnswer::Refused { why, count } => slots::put_refusal(slots, count, NO_VERDICT, why),
@@ -111,13 +112,13 @@ pub fn parse_date(s: &[u8], slots: &mut [i64]) -> u32
 }
 
 // Reads the date-time that the bytes begin with.
-pub fn datetime(s: &[u8], slots: &mut [i64]) -> u32
-    ensures { λ r. ⌜ BeginsIn 13 10 dateTime dateTimeSlots (now (s .entry)) (now (slots .entry)) (now (slots .exit)) r ⌝ }
+pub fn datetime(s: &[u8], slots: &mut [i64], choices: Choices) -> u32
+    ensures { λ r. ⌜ BeginsIn 13 10 (dateTime choices) dateTimeSlots (now (s .entry)) (now (slots .entry)) (now (slots .exit)) r ⌝ }
 {
     if slots.len() < 13 {
         return TOO_FEW;
     }
-    let read = datetimes::datetime(s);
+    let read = datetimes::datetime(s, choices);
     let judged = read.verdict;
     let verdict = slots::verdict_slot(judged);
     let answer = read.answer;
@@ -133,13 +134,13 @@ pub fn datetime(s: &[u8], slots: &mut [i64]) -> u32
 }
 
 // Reads bytes that are one date-time from the first to the last.
-pub fn parse_datetime(s: &[u8], slots: &mut [i64]) -> u32
-    ensures { λ r. ⌜ EndsIn 13 dateTime dateTimeSlots (now (s .entry)) (now (slots .entry)) (now (slots .exit)) r ⌝ }
+pub fn parse_datetime(s: &[u8], slots: &mut [i64], choices: Choices) -> u32
+    ensures { λ r. ⌜ EndsIn 13 (dateTime choices) dateTimeSlots (now (s .entry)) (now (slots .entry)) (now (slots .exit)) r ⌝ }
 {
     if slots.len() < 13 {
         return TOO_FEW;
     }
-    let answer = datetimes::parse_datetime(s);
+    let answer = datetimes::parse_datetime(s, choices);
     match answer {
         DateTimeAnswer::Record { value, count } => slots::put_datetime(
             slots,

@@ -9,9 +9,12 @@ ghost use lib.Seq.{sets};
 ghost use Rattle.types.specs.Numbers.{numberOf};
 ghost use Rattle.parser.specs.Answer.{recorded, refused};
 ghost use Rattle.slots.specs.Slots.{verdictSlot, offsetSlots, timeOffsetSlots, timeSlots, dateSlots, dateTimeSlots, durationSlots, noSlots, PutIn};
+ghost use Rattle.slots.specs.Choosing.{chosen};
+use types::Choices;
 use types::Date;
 use types::DateTime;
 use types::Duration;
+use types::Edition;
 use types::Offset;
 use types::Refusal;
 use types::Time;
@@ -21,8 +24,29 @@ use types::Verdict;
 // What is returned where the slots are too few, or the count is more than one holds: nothing is written.
 pub const TOO_FEW: u32 = 255;
 
+// What is returned where a number names no choices: nothing is written.
+pub const NO_SUCH_CHOICE: u32 = 254;
+
 // The greatest count that a slot holds.
 const MOST: usize = 9223372036854775807;
+
+// The choices of a caller who has numbers alone.
+pub enum Chosen {
+    Names(Choices),
+    Unknown,
+}
+
+pub fn choices_of(n: u32) -> Chosen
+    ensures { λ r. ⌜ r ≡ chosen n ⌝ }
+{
+    match n {
+        0 => Chosen::Names(Choices::DOCUMENT_01),
+        1 => Chosen::Names(Choices {
+            edition: Edition::E2004,
+        }),
+        _ => Chosen::Unknown,
+    }
+}
 
 fn number(why: Refusal) -> u32
     ensures { λ r. ⌜ r ≡ numberOf why ⌝ }

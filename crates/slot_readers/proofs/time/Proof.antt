@@ -15,6 +15,6 @@ time-spec =
     (λ c. begins-few (c .if1 .taken))
     (λ c κs. search needs) (λ c κs. search needs) (λ c. search needs) (λ c κs. search needs) (λ c. search needs) (λ c κs. search needs)
     (λ c. search needs)
-    (λ c. begins (c .before .before .before .before .before .before .before .before .if1 .left) (omega arith) (omega arith) time-bounded (c .before .before .before .before .before .before .before .time .ensures) (ap timeTold (c .before .before .before .before .answer .given .1)) (c .before .before .before .before .before .before .verdict-slot .ensures) (search needs) (c .before .put-time .ensures))
+    (λ c. begins (c .before .before .before .before .before .before .before .before .if1 .left) (omega arith) (omega arith) (time-bounded _) (c .before .before .before .before .before .before .before .time .ensures) (ap timeTold (c .before .before .before .before .answer .given .1)) (c .before .before .before .before .before .before .verdict-slot .ensures) (search needs) (c .before .put-time .ensures))
     (λ c. search needs)
-    (λ c. begins (c .before .before .before .before .before .before .before .before .if1 .left) (omega arith) (omega arith) time-bounded (c .before .before .before .before .before .before .before .time .ensures) (ap timeTold (c .before .before .before .before .answer2 .given .1)) (c .before .before .before .before .before .before .verdict-slot .ensures) (search needs) (refusal (c .before .put-refusal .ensures))))
+    (λ c. begins (c .before .before .before .before .before .before .before .before .if1 .left) (omega arith) (omega arith) (time-bounded _) (c .before .before .before .before .before .before .before .time .ensures) (ap timeTold (c .before .before .before .before .answer2 .given .1)) (c .before .before .before .before .before .before .verdict-slot .ensures) (search needs) (refusal (c .before .put-refusal .ensures))))
