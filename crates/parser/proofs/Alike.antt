@@ -3,9 +3,9 @@ use Prim.Native.Nat.{ℕ}
 use mathlib.Core.List.{List, _∷_, _++_}
 use mathlib.Core.Bool.{Bool, true, false}
 use mathlib.Core.Path.{_≡_, refl, sym, _∙_}
-use mathlib.Core.Logic.{_⊎_, inl, inr}
+use mathlib.Core.Logic.{inl, inr}
 use Rattle.parser.specs.Reading.{Found, no, got, stop, Reader, seq, opt, alt, verify, must, map, failed, or, and, Says}
-use Rattle.parser.proofs.Hopeful.{Ends, AnyByte, Stops, HopefulOr}
+use Rattle.parser.proofs.Hopeful.{Ends, HopefulOr, Changes}
 
 -- ---- the same reading from two places
 
@@ -106,6 +106,6 @@ alike-ends p q {s} {at} e x = record { first = x .first; rest = x .rest; value =
 pub alike-hopeful : {W : Type 0} {A : Type 0} {k : ℕ} {F : A → Type 0} (p q : Reader A) → Alike p q → HopefulOr W k F q → HopefulOr W k F p
 alike-hopeful {W} {A} {k} {F} p q e hq s at le h = go (hq s at le (sym (e s at .more) ∙ h))
   where
-    go : Ends k AnyByte F q s at ⊎ (W × Stops k q s at) → Ends k AnyByte F p s at ⊎ (W × Stops k p s at)
+    go : Changes W k F q s at → Changes W k F p s at
     go (inl x) = inl (alike-ends p q e x)
     go (inr (w, x)) = inr (w, record { more = x .more; few = x .few; value = x .value; place = x .place; number = x .number; now = e s at .reads ∙ x .now; stops = e (s ++ x .more) at .reads ∙ x .stops })

@@ -43,9 +43,12 @@ pub record Stops {A : Type 0} (k : ℕ) (p : Reader A) (s : List ℕ) (at : ℕ)
   pub now : p .reads s at ≡ got value place
   pub stops : p .reads (s ++ more) at ≡ stop number
 
--- the same, or these, where W allows them
+-- the one, or where W allows it the other
+abbrev pub Changes : Type 0 → {A : Type 0} → ℕ → (A → Type 0) → Reader A → List ℕ → ℕ → Type 0
+Changes W k F p s at = Ends k AnyByte F p s at ⊎ (W × Stops k p s at)
+
 abbrev pub HopefulOr : Type 0 → {A : Type 0} → ℕ → (A → Type 0) → Reader A → Type 0
-HopefulOr W k F p = (s : List ℕ) (at : ℕ) → at ≤ length s → p .more s at ≡ true → Ends k AnyByte F p s at ⊎ (W × Stops k p s at)
+HopefulOr W k F p = (s : List ℕ) (at : ℕ) → at ≤ length s → p .more s at ≡ true → Changes W k F p s at
 
 pub hopeful-or : {W : Type 0} {A : Type 0} {k : ℕ} {F : A → Type 0} {p : Reader A} → Hopeful k F p → HopefulOr W k F p
 hopeful-or hp s at le h = inl (hp s at le h)
@@ -54,7 +57,7 @@ hopeful-or hp s at le h = inl (hp s at le h)
 pub never-stops : {A : Type 0} {k : ℕ} {F : A → Type 0} {p : Reader A} → HopefulOr ⊥ k F p → Hopeful k F p
 never-stops {A} {k} {F} {p} hp s at le h = go (hp s at le h)
   where
-    go : Ends k AnyByte F p s at ⊎ (⊥ × Stops k p s at) → Ends k AnyByte F p s at
+    go : Changes ⊥ k F p s at → Ends k AnyByte F p s at
     go (inl e) = e
     go (inr (w, e)) = absurd w
 
@@ -84,7 +87,7 @@ ends-weaken k Y F h f g e = record { first = e .first; rest = e .rest; value = e
 pub hopeful-weaken : {U W : Type 0} {A : Type 0} {j : ℕ} (k : ℕ) {E : A → Type 0} (F : A → Type 0) (p : Reader A) → (U → W) → j ≤ k → ((a : A) → E a → F a) → HopefulOr U j E p → HopefulOr W k F p
 hopeful-weaken {U} {W} {A} {j} k {E} F p f h g hp s at le m = go (hp s at le m)
   where
-    go : Ends j AnyByte E p s at ⊎ (U × Stops j p s at) → Ends k AnyByte F p s at ⊎ (W × Stops k p s at)
+    go : Changes U j E p s at → Changes W k F p s at
     go (inl e) = inl (ends-weaken k AnyByte F h (λ c x. x) g e)
     go (inr (v, e)) = inr (f v, record { more = e .more; few = omega (arith, e .few); value = e .value; place = e .place; number = e .number; now = e .now; stops = e .stops })
 
@@ -168,7 +171,7 @@ pub map-hopeful : {W : Type 0} {A B : Type 0} {k : ℕ} {E : A → Type 0} (F : 
 unfolding map
 map-hopeful {W} {A} {B} {k} {E} F f p g hp s at le h = go (hp s at le h)
   where
-    go : Ends k AnyByte E p s at ⊎ (W × Stops k p s at) → Ends k AnyByte F (map f p) s at ⊎ (W × Stops k (map f p) s at)
+    go : Changes W k E p s at → Changes W k F (map f p) s at
     go (inl e) = inl (ends-map F f p g e)
     go (inr (w, e)) = inr (w, record { more = e .more; few = e .few; value = f (e .value); place = e .place; number = e .number; now = rw (e .now); stops = rw (e .stops) })
 
@@ -209,16 +212,16 @@ unfolding seq
 seq-hopeful {W} {A} {B} {k} {F} p q sp bp hp hq s at le h = go (p .more s at) refl
   where
     -- p is settled with a value, and what follows decides
-    on : p .more s at ≡ false → (a : A) (n : ℕ) → p .reads s at ≡ got a n → Ends k AnyByte F (q a) s n ⊎ (W × Stops k (q a) s n) → Ends k AnyByte F (seq p q) s at ⊎ (W × Stops k (seq p q) s at)
+    on : p .more s at ≡ false → (a : A) (n : ℕ) → p .reads s at ≡ got a n → Changes W k F (q a) s n → Changes W k F (seq p q) s at
     on em a n ef (inl e) = inl (ends-read-on p q sp em a n ef e)
     on em a n ef (inr (w, e)) = inr (w, record { more = e .more; few = e .few; value = e .value; place = e .place; number = e .number; now = rw (ef, e .now); stops = rw (sp s (e .more) at em .reads, ef, e .stops) })
 
-    second : p .more s at ≡ false → (f : Found A) → p .reads s at ≡ f → after f (λ a n. q a .more s n) ≡ true → Ends k AnyByte F (seq p q) s at ⊎ (W × Stops k (seq p q) s at)
+    second : p .more s at ≡ false → (f : Found A) → p .reads s at ≡ f → after f (λ a n. q a .more s n) ≡ true → Changes W k F (seq p q) s at
     second em no ef h = absurd (true≢false (sym h))
     second em (stop r) ef h = absurd (true≢false (sym h))
     second em (got a n) ef h = on em a n ef (hq a s n (bp s at le a n ef) h)
 
-    go : (m : Bool) → p .more s at ≡ m → Ends k AnyByte F (seq p q) s at ⊎ (W × Stops k (seq p q) s at)
+    go : (m : Bool) → p .more s at ≡ m → Changes W k F (seq p q) s at
     go true em = inl (hp s at le em)
     go false em = second em (p .reads s at) refl (or-true _ _ em h)
 

@@ -14,7 +14,7 @@ use Rattle.parser.specs.Digits.{number, numberFrom, runAt, ofRun, runUpT
 use Rattle.parser.proofs.Fields.{true≢false, and-first}
 use Rattle.parser.proofs.Runs.{number-grows}
 use Rattle.parser.proofs.Places.{stop≢got}
-use Rattle.parser.proofs.Hopeful.{Ends, AnyByte, Stops, Hopeful, HopefulOr}
+use Rattle.parser.proofs.Hopeful.{Ends, AnyByte, Hopeful, HopefulOr, Changes}
 
 -- the same is found, or the reading is stopped
 abbrev SameOrStop : {A : Type 0} → Found A → Found A → Type 0
@@ -120,9 +120,9 @@ Valued {A} p s at = (a : A) × ((n : ℕ) × (p .reads s at ≡ got a n))
 pub stricter-hopeful : {W : Type 0} {A : Type 0} {k : ℕ} {F : A → Type 0} (p q : Reader A) → W → Stricter p q → ((s : List ℕ) (at : ℕ) → p .more s at ≡ true → Valued p s at) → Hopeful k F q → HopefulOr W k F p
 stricter-hopeful {W} {A} {k} {F} p q w st now hq s at le h = go (hq s at le (st s at .more h)) (now s at h)
   where
-    go : Ends k AnyByte F q s at → Valued p s at → Ends k AnyByte F p s at ⊎ (W × Stops k p s at)
+    go : Ends k AnyByte F q s at → Valued p s at → Changes W k F p s at
     go e v = by (st (s ++ e .first ∷ e .rest) at .reads)
       where
-        by : SameOrStop (p .reads (s ++ e .first ∷ e .rest) at) (q .reads (s ++ e .first ∷ e .rest) at) → Ends k AnyByte F p s at ⊎ (W × Stops k p s at)
+        by : SameOrStop (p .reads (s ++ e .first ∷ e .rest) at) (q .reads (s ++ e .first ∷ e .rest) at) → Changes W k F p s at
         by (inl i) = inl record { first = e .first; rest = e .rest; value = e .value; begins = tt; few = e .few; fact = e .fact; reads = i ∙ e .reads }
         by (inr (r, i)) = inr (w, record { more = e .first ∷ e .rest; few = e .few; value = v .0; place = v .1 .0; number = r; now = v .1 .1; stops = i })

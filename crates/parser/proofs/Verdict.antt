@@ -4,7 +4,7 @@ use mathlib.Core.List.{List, _∷_, _++_}
 use mathlib.Core.Bool.{Bool, true, false}
 use mathlib.Core.Option.{some, none}
 use mathlib.Core.Path.{_≡_, refl, sym, ap, _∙_}
-use mathlib.Core.Logic.{_⊎_, inl, inr}
+use mathlib.Core.Logic.{inl, inr}
 use native.Mathlib.Omega.{arith}
 use lib.ListN.{length, length-append}
 use Rattle.types.specs.declared.Verdict.{Verdict}
@@ -13,7 +13,7 @@ use Rattle.parser.specs.Reading.{Found, no, got, stop, Reader, Says}
 use Rattle.parser.specs.Answer.{Told, recorded, refused, begun, Judged, Begins, verdictOf}
 use Rattle.parser.proofs.Stable.{Stable}
 use Rattle.parser.proofs.Places.{Bounded}
-use Rattle.parser.proofs.Hopeful.{Ends, AnyByte, Stops, HopefulOr}
+use Rattle.parser.proofs.Hopeful.{HopefulOr, Changes}
 
 -- the count of an answer lies within the input
 count-within : {A : Type 0} (p : Reader A) → Bounded p → (s : List ℕ) → begun (p .reads s 0) .count ≤ length s
@@ -36,7 +36,7 @@ recorded-or-refused {A} e = never (ap (λ (t : Told A). t .value) e)
 pub open-within : {W : Type 0} {A : Type 0} (k : ℕ) (F : A → Type 0) (p : Reader A) → Bounded p → HopefulOr W k F p → (s : List ℕ) → p .more s 0 ≡ true → Judged k p s Open
 open-within {W} {A} k F p bp hp s h = go (hp s 0 (omega arith) h)
   where
-    go : Ends k AnyByte F p s 0 ⊎ (W × Stops k p s 0) → Judged k p s Open
+    go : Changes W k F p s 0 → Judged k p s Open
     go (inl e) =
         let x = e .first ∷ e .rest in
         let all : begun (p .reads (s ++ x) 0) .count ≡ length (s ++ x) = ap (λ (f : Found A). begun f .count) (e .reads) in

@@ -16,7 +16,8 @@ use Rattle.parser.specs.Digits.{field, runUpTo, fraction}
 use Rattle.parser.specs.Fields.{hour, minute, second, either, precededBy, orZero}
 use Rattle.offset.specs.Rules.{offset}
 
--- "ISO 8601:2004 writes the end of a day as `24:00`": the hours of each edition, and the one that ends the day
+-- "ISO 8601:2004 writes the end of a day as `24:00`": the hours of each edition, and the one that ends the day. "An offset's hour stays 00 to
+-- 23": its rule has no edition.
 abbrev pub hourOf : Edition → Reader ℕ
 hourOf E2019 = hour
 hourOf E2004 = field 2 0 24
