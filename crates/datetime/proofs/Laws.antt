@@ -1,19 +1,25 @@
 -- What holds of every date-time: a date's laws and a time's, and between them a `T`, which no date takes.
-use Prim.Native.Nat.{ℕ}
-use mathlib.Core.List.{List, [], _∷_}
-use mathlib.Core.Bool.{Bool}
-use mathlib.Core.Path.{refl}
+use Prim.Native.Nat.{ℕ, suc, _≤_}
+use mathlib.Core.List.{List, [], _∷_, _++_}
+use mathlib.Core.Bool.{Bool, true, false}
+use mathlib.Core.Path.{_≡_, refl, sym}
+use native.Mathlib.Omega.{arith}
+use lib.Dec.{ltb, eqb}
+use lib.ListN.{length, getD, take, drop}
+use lib.Seq.{length-take-le, split-at}
+use borrow.Author.Tests.{ltb-true, eqb-true}
 use Rattle.types.specs.declared.Choices.{Choices}
 use Rattle.types.specs.declared.Date.{Date}
 use Rattle.types.specs.declared.DateTime.{DateTime}
-use Rattle.parser.specs.Reading.{Found, Says}
+use Rattle.parser.specs.Reading.{Found, no, got, lit, Says}
 use Rattle.parser.specs.Answer.{begun, Begins, verdictOf}
 use Rattle.parser.specs.Digits.{isDigit}
 use Rattle.parser.proofs.Places.{Bounded}
 use Rattle.parser.proofs.Hopeful.{Anything}
-use Rattle.parser.proofs.Lawful.{byte, lawful-begins, ItemOr, widen, map-item, outside-keeps, then-item}
+use Rattle.parser.proofs.Lawful.{byte, lawful-begins, open-apart, ItemOr, widen, map-item, outside-keeps, then-item}
 use Rattle.parser.proofs.Items.{lit-mark, after-item}
 use Rattle.time.proofs.Laws.{MayStop, base-time-item}
+use Rattle.date.specs.Rules.{date}
 use Rattle.date.proofs.Laws.{date-item}
 use Rattle.datetime.specs.Rules.{timeOf, afterDate, dateTime}
 
@@ -37,3 +43,21 @@ datetime-bounded c = datetime-item c .lawful .steady .bounded
 -- that changes the answer
 pub datetime-begins : (c : Choices) (s : List ℕ) (f : Found DateTime) (m : Bool) → Says (dateTime c) s 0 f m → Begins 10 (dateTime c) s (begun f) (verdictOf m)
 datetime-begins c = lawful-begins (datetime-item c .lawful)
+
+-- ---- where a date is open no T stands behind it, which no date takes
+
+pub open-date : (s : List ℕ) (at : ℕ) (d : Date) (n : ℕ) → Says date s at (got d n) true → lit 84 .reads s n ≡ no
+unfolding lit
+open-date s at d n h = go (ltb n (length s)) refl (eqb (getD s n 0) 84) refl
+  where
+    ahead : at ≤ n
+    ahead = date-item .lawful .steady .ahead s at d n (sym (h .found))
+
+    go : (t : Bool) → ltb n (length s) ≡ t → (u : Bool) → eqb (getD s n 0) 84 ≡ u → lit 84 .reads s n ≡ no
+    go false i u e = rw i
+    go true i false e = rw (i, e)
+    go true i true e =
+        let inside = ltb-true n (length s) i in
+        let there = split-at s n 0 inside in
+        let still : date .more (take n s ++ getD s n 0 ∷ drop (suc n) s) at ≡ true = rw (← there) (sym (h .more)) in
+        absurd (open-apart (date-item .lawful) (take n s) (getD s n 0) (drop (suc n) s) at (rw (eqb-true (getD s n 0) 84 e)) (omega (arith, ahead, length-take-le n s (omega arith))) still)

@@ -7,12 +7,12 @@ use Rattle.datetime.specs.declared.DateTimeFound.the-variants as found
 
 abbrev pub dateTimeFound : DateTimeFound → Found DateTime
 dateTimeFound (found.Got d n m) = got d n
-dateTimeFound (found.Stopped m) = stop 1
+dateTimeFound found.Stopped = stop 1
 dateTimeFound found.Wrong = no
 dateTimeFound found.Cut = no
 
 abbrev pub dateTimeMore : DateTimeFound → Bool
 dateTimeMore (found.Got d n m) = m
-dateTimeMore (found.Stopped m) = m
+dateTimeMore found.Stopped = false
 dateTimeMore found.Wrong = false
 dateTimeMore found.Cut = true

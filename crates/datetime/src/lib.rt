@@ -1,6 +1,7 @@
 // Date-times (datetime.rs): a date, one `T`, a time.
 ghost use mathlib.Core.Path.{_≡_};
-ghost use Rattle.parser.specs.Reading.{Says, SaysOn, no};
+ghost use mathlib.Core.Bool.{true};
+ghost use Rattle.parser.specs.Reading.{Says, SaysOn, lit, no};
 ghost use Rattle.datetime.specs.Rules.{timeOf, afterDate, dateTime};
 ghost use Rattle.datetime.specs.Answer.{dateTimeFound, dateTimeMore};
 use date::DateFound;
@@ -21,9 +22,7 @@ pub enum DateTimeFound {
         next: usize,
         more: bool,
     },
-    Stopped {
-        more: bool,
-    },
+    Stopped,
     Wrong,
     Cut,
 }
@@ -40,34 +39,35 @@ fn no_datetime(more: bool) -> DateTimeFound
     }
 }
 
-// The time of a date. `more`: the date was left open.
-fn time_of(s: &[u8], at: usize, date: Date, more: bool, choices: Choices) -> DateTimeFound
-    ensures { λ r. ⌜ SaysOn more (timeOf choices date) (now (s .entry)) at (dateTimeFound r) (dateTimeMore r) ⌝ }
+// The time of a date.
+fn time_of(s: &[u8], at: usize, date: Date, choices: Choices) -> DateTimeFound
+    ensures { λ r. ⌜ Says (timeOf choices date) (now (s .entry)) at (dateTimeFound r) (dateTimeMore r) ⌝ }
 {
     let found = time::base_time(s, at, choices);
     match found {
         TimeFound::Got {
             value: time,
             next,
-            more: open,
+            more,
         } => DateTimeFound::Got {
             value: DateTime { date, time },
             next, // past the time, not past the date
-            more: parser::either_open(more, open),
+            more, // the time's: behind a T the date is settled
         },
-        TimeFound::Stopped => DateTimeFound::Stopped { more },
-        TimeFound::Wrong => no_datetime(more),
+        TimeFound::Stopped => DateTimeFound::Stopped,
+        TimeFound::Wrong => DateTimeFound::Wrong,
         TimeFound::Cut => DateTimeFound::Cut,
     }
 }
 
-// T and the time of a date. `more`: the date was left open.
+// T and the time of a date. `more`: the date was left open, and then no T stands here.
 fn after_date(s: &[u8], at: usize, date: Date, more: bool, choices: Choices) -> DateTimeFound
+    requires { ⌜ (more ≡ true → lit 84 .reads (now s) at ≡ no) ⌝ }
     ensures { λ r. ⌜ SaysOn more (afterDate choices date) (now (s .entry)) at (dateTimeFound r) (dateTimeMore r) ⌝ }
 {
     let mark = parser::literal(s, at, 84);
     match mark {
-        Mark::Got { next } => time_of(s, next, date, more, choices),
+        Mark::Got { next } => time_of(s, next, date, choices),
         Mark::Wrong => no_datetime(more),
         Mark::Cut => DateTimeFound::Cut,
     }

@@ -79,7 +79,7 @@ pub fn datetime_begun(s: &[u8], choices: Choices) -> DateTimeFound
                 DateTimeFound::Got { value, next, more } => {
                     DateTimeFound::Got { value, next, more }
                 }
-                DateTimeFound::Stopped { more } => DateTimeFound::Stopped { more },
+                DateTimeFound::Stopped => DateTimeFound::Stopped,
                 DateTimeFound::Wrong => DateTimeFound::Wrong,
                 DateTimeFound::Cut => DateTimeFound::Cut,
             }

@@ -30,12 +30,12 @@ pub fn datetime(s: &[u8], choices: Choices) -> DateTimeRead
             answer: DateTimeAnswer::Record { value, count: next },
             verdict: parser::verdict_on(more),
         },
-        DateTimeFound::Stopped { more: date } => DateTimeRead {
+        DateTimeFound::Stopped => DateTimeRead {
             answer: DateTimeAnswer::Refused {
                 why: Refusal::NoForm,
                 count: 0,
             },
-            verdict: parser::verdict_on(date),
+            verdict: Verdict::Settled,
         },
         DateTimeFound::Wrong => DateTimeRead {
             answer: DateTimeAnswer::Refused {
@@ -65,7 +65,7 @@ pub fn datetime_rest(s: &[u8], choices: Choices) -> &[u8]
             next,
             more: _,
         } => parser::leftover(s, next),
-        DateTimeFound::Stopped { more: _ } => s,
+        DateTimeFound::Stopped => s,
         DateTimeFound::Wrong => s,
         DateTimeFound::Cut => s,
     }
@@ -91,7 +91,7 @@ pub fn parse_datetime(s: &[u8], choices: Choices) -> DateTimeAnswer
                 DateTimeAnswer::Record { value, count: next }
             }
         }
-        DateTimeFound::Stopped { more: _ } => DateTimeAnswer::Refused {
+        DateTimeFound::Stopped => DateTimeAnswer::Refused {
             why: Refusal::NoForm,
             count: 0,
         },

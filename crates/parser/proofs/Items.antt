@@ -14,6 +14,7 @@ use Rattle.parser.specs.Fields.{signed, either, precededBy}
 use Rattle.parser.proofs.Fields.{true≢false, and-first, and-second}
 use Rattle.parser.proofs.Stable.{lit-stable, field-stable, fraction-stable}
 use Rattle.parser.proofs.Places.{Foreign, lit-bounded, field-bounded, fraction-bounded, lit-fails, field-fails, run-fails, fraction-fails, seq-fails, lit-foreign, fraction-foreign, field-foreign}
+use Rattle.parser.proofs.Ahead.{lit-ahead, field-ahead, fraction-ahead}
 use Rattle.parser.proofs.Steady.{opt-steady, run-steady}
 use Rattle.parser.proofs.Hopeful.{Ends, AnyByte, Anything, hopeful-or, Starts, Keeps, AtEnd, definite-keeps, at-end-definite, starts-weaken, left-out-starts}
 use Rattle.parser.proofs.Leaves.{From, Narrows, lit-starts, lit-at-end, lit-hopeful, map-at-end, alt-at-end, field-hopeful-in, field-starts, field-definite}
@@ -30,7 +31,7 @@ pub record Mark {A : Type 0} (l : List ℕ) (c : ℕ) (p : Reader A) : Type 0 wh
 pub lit-mark : {l : List ℕ} (c : ℕ) → member l c ≡ true → Mark l c (lit c)
 lit-mark {l} c h = record {
   item = record {
-    lawful = record { steady = record { stable = lit-stable c; bounded = lit-bounded c; foreign = lit-foreign (Outside l) c (outside-other l c h) }; hopeful = hopeful-or (lit-hopeful c) };
+    lawful = record { steady = record { stable = lit-stable c; bounded = lit-bounded c; ahead = lit-ahead c; foreign = lit-foreign (Outside l) c (outside-other l c h) }; hopeful = hopeful-or (lit-hopeful c) };
     fails = lit-fails c;
     eager = lit-eager c;
     starts = lit-starts c;
@@ -105,7 +106,7 @@ pub field-item-in : {l : List ℕ} (n lo hi lo′ hi′ : ℕ) → and (leb lo l
 field-item-in zero lo hi lo′ hi′ h narrows = absurd (true≢false (sym (and-second (leb hi′ hi) (and-second (leb lo lo′) h))))
 field-item-in {l} (suc n) lo hi lo′ hi′ h narrows = record {
   lawful = record {
-    steady = record { stable = field-stable (suc n) lo hi; bounded = field-bounded (suc n) lo hi; foreign = field-foreign (Outside l) (suc n) lo hi (outside-digit l) };
+    steady = record { stable = field-stable (suc n) lo hi; bounded = field-bounded (suc n) lo hi; ahead = field-ahead (suc n) lo hi; foreign = field-foreign (Outside l) (suc n) lo hi (outside-digit l) };
     hopeful = hopeful-or (field-hopeful-in (suc n) lo hi lo′ hi′ a b ab narrows);
   };
   fails = field-fails (suc n) lo hi (omega arith);
@@ -138,7 +139,7 @@ field-keeps n lo hi = definite-keeps (In isDigit) (field n lo hi) (field-stable 
 
 pub fraction-item : {l : List ℕ} → Item l isDigit 1 1 Anything fraction
 fraction-item {l} = record {
-  lawful = record { steady = record { stable = fraction-stable; bounded = fraction-bounded; foreign = fraction-foreign (Outside l) (outside-digit l) }; hopeful = hopeful-or fraction-hopeful };
+  lawful = record { steady = record { stable = fraction-stable; bounded = fraction-bounded; ahead = fraction-ahead; foreign = fraction-foreign (Outside l) (outside-digit l) }; hopeful = hopeful-or fraction-hopeful };
   fails = fraction-fails;
   eager = fraction-eager;
   starts = fraction-starts;

@@ -1,11 +1,11 @@
 -- The laws of a part of a rule travel together: a record for what must be there, one for what may be absent, one law for each combinator.
 use Prim.Native.Nat.{ℕ, _+_, _≤_}
-use mathlib.Core.List.{List, [], _∷_, _++_}
+use mathlib.Core.List.{List, [], _∷_, _++_, append-assoc}
 use mathlib.Core.Bool.{Bool, true, false}
 use mathlib.Core.Option.{Option, some, none}
 use mathlib.Core.Path.{_≡_, refl, sym, _∙_}
 use native.Mathlib.Omega.{arith}
-use lib.ListN.{length}
+use lib.ListN.{length, length-append}
 use lib.Dec.{leb, eqb}
 use borrow.Author.Tests.{leb-true, leb-false, eqb-true}
 use Rattle.parser.specs.Reading.{Found, Reader, seq, opt, alt, verify, map, give, or, and, pick, Says}
@@ -92,7 +92,7 @@ Lawful l k F p = LawfulOr ⊥ l k F p
 weaken-lawful : {U W : Type 0} {A : Type 0} {m l : List ℕ} {k : ℕ} {E F : A → Type 0} {p : Reader A} → (U → W) → ((b : ℕ) → Outside l b → Outside m b) → ((a : A) → E a → F a) → LawfulOr U m k E p → LawfulOr W l k F p
 weaken-lawful {k = k} {F = F} {p = p} f h g hp =
     let x = hp .steady in
-    record { steady = record { stable = x .stable; bounded = x .bounded; foreign = λ s c y at o. x .foreign s c y at (h c o) }; hopeful = hopeful-weaken k F p f (omega arith) g (hp .hopeful) }
+    record { steady = record { stable = x .stable; bounded = x .bounded; ahead = x .ahead; foreign = λ s c y at o. x .foreign s c y at (h c o) }; hopeful = hopeful-weaken k F p f (omega arith) g (hp .hopeful) }
 
 map-lawful : {W : Type 0} {A B : Type 0} {l : List ℕ} {k : ℕ} {E : A → Type 0} (f : A → B) {p : Reader A} → LawfulOr W l k E p → LawfulOr W l k Anything (map f p)
 map-lawful f {p} hp = record { steady = map-steady f (hp .steady); hopeful = map-hopeful Anything f p (λ a e. tt) (hp .hopeful) }
@@ -210,6 +210,15 @@ seq-item {F = F} {p = p} {q = q} hp hq = record {
 pub outside-keeps : {A : Type 0} {l : List ℕ} {k : ℕ} {F : A → Type 0} {p : Reader A} (c : ℕ) → Outside l c → Lawful l k F p → Keeps (In (byte c)) p
 outside-keeps {p = p} c o hp = foreign-keeps (In (byte c)) p (λ s b y at e le. hp .steady .foreign s b y at (rw (eqb-true b c e) o) le)
 
+-- where a part is open no byte stands behind the place that it never takes: hope reads past that byte, and the part does not
+pub open-apart : {A : Type 0} {l : List ℕ} {k : ℕ} {F : A → Type 0} {p : Reader A} → Lawful l k F p → (u : List ℕ) (c : ℕ) (y : List ℕ) (at : ℕ) → Outside l c → at ≤ length u → p .more (u ++ c ∷ y) at ≡ true → ⊥
+open-apart {p = p} hp u c y at o le h =
+    let e = never-stops (hp .hopeful) (u ++ c ∷ y) at (omega (arith, length-append u (c ∷ y))) h in
+    let rest = y ++ e .first ∷ e .rest in
+    let all = rw (append-assoc u (c ∷ y) (e .first ∷ e .rest)) at (e .reads) in
+    let few = hp .steady .bounded u at le (e .value) (length (u ++ c ∷ rest)) (sym (hp .steady .foreign u c rest at o le) ∙ all) in
+    omega (arith, few, length-append u (c ∷ rest))
+
 -- an item and the one that must follow it, whose first byte leaves the first as it is
 pub then-item : {W : Type 0} {A B : Type 0} {l : List ℕ} {Y Z : ℕ → Bool} {i j k n : ℕ} {E : A → Type 0} {F : B → Type 0} {p : Reader A} {q : A → Reader B} → Keeps (In Z) p → Item l Y i j E p → ((a : A) → ItemOr W l Z k n F (q a)) → ItemOr W l Y (i + k) (most (j + k) n) F (seq p q)
 then-item {Z = Z} {i = i} {j = j} {k = k} {F = F} {p = p} {q = q} kp hp hq = record {
@@ -226,6 +235,7 @@ alike-item {p = p} {q = q} e hq = record {
     steady = record {
       stable = λ s x at h. let g = hq .lawful .steady .stable s x at (sym (e s at .more) ∙ h) in record { reads = e (s ++ x) at .reads ∙ g .reads ∙ sym (e s at .reads); more = e (s ++ x) at .more ∙ g .more };
       bounded = λ s at le a n h. hq .lawful .steady .bounded s at le a n (sym (e s at .reads) ∙ h);
+      ahead = λ s at a n h. hq .lawful .steady .ahead s at a n (sym (e s at .reads) ∙ h);
       foreign = λ s c y at x le. e (s ++ c ∷ y) at .reads ∙ hq .lawful .steady .foreign s c y at x le ∙ sym (e s at .reads);
     };
     hopeful = alike-hopeful p q e (hq .lawful .hopeful);

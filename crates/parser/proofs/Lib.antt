@@ -2,6 +2,7 @@ pub mod Fields
 pub mod Runs
 pub mod Stable
 pub mod Places
+pub mod Ahead
 pub mod Steady
 pub mod Hopeful
 pub mod Leaves

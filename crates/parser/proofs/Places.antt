@@ -9,7 +9,7 @@ use lib.ListN.{length, getD, drop, length-append, length-drop, List·getD-append
 use lib.Seq.{getD-append-seam, drop-append-le}
 use lib.Dec.{ltb, leb, eqb}
 use borrow.Author.Tests.{ltb-true, ltb-false, lt-ltb, le-ltb}
-use Rattle.parser.specs.Reading.{Found, no, got, stop, Reader, lit, seq, then, opt, lack, alt, orElse, verify, keep, must, keepOrStop, map, mapFound, give, pick, and}
+use Rattle.parser.specs.Reading.{Found, no, got, stop, Reader, lit, seq, then, opt, lack, alt, orElse, verify, keep, must, map, mapFound, give, pick, and}
 use Rattle.parser.specs.Digits.{isDigit, digitsFrom, field, digits, number, runAt, ofRun, runUpTo, nanoseconds, fraction}
 use Rattle.parser.proofs.Fields.{digitsFrom-end}
 use Rattle.parser.proofs.Runs.{run-end, digits-short}
@@ -87,19 +87,6 @@ verify-bounded {A} f p hp s at le b n e = go (p .reads s at) refl e
     go : (x : Found A) → p .reads s at ≡ x → keep f x ≡ got b n → n ≤ length s
     go no ef e = absurd (no≢got e)
     go (stop r) ef e = absurd (stop≢got e)
-    go (got a m) ef e = kept a m ef (f a) e
-
-pub must-bounded : {A : Type 0} (f : A → Bool) (r : ℕ) (p : Reader A) → Bounded p → Bounded (must f r p)
-unfolding must
-must-bounded {A} f r p hp s at le b n e = go (p .reads s at) refl e
-  where
-    kept : (a : A) (m : ℕ) → p .reads s at ≡ got a m → (t : Bool) → pick t (got a m) (stop r) ≡ got b n → n ≤ length s
-    kept a m ef true e = hp s at le b n (ef ∙ e)
-    kept a m ef false e = absurd (stop≢got e)
-
-    go : (x : Found A) → p .reads s at ≡ x → keepOrStop f r x ≡ got b n → n ≤ length s
-    go no ef e = absurd (no≢got e)
-    go (stop q) ef e = absurd (stop≢got e)
     go (got a m) ef e = kept a m ef (f a) e
 
 pub map-bounded : {A B : Type 0} (f : A → B) (p : Reader A) → Bounded p → Bounded (map f p)
@@ -267,10 +254,6 @@ alt-foreign X p q hp hq s c y at hx le = rw (hp s c y at hx le, hq s c y at hx l
 pub verify-foreign : {A : Type 0} (X : ℕ → Type 0) (f : A → Bool) (p : Reader A) → Foreign X p → Foreign X (verify f p)
 unfolding verify
 verify-foreign X f p hp s c y at hx le = rw (hp s c y at hx le)
-
-pub must-foreign : {A : Type 0} (X : ℕ → Type 0) (f : A → Bool) (r : ℕ) (p : Reader A) → Foreign X p → Foreign X (must f r p)
-unfolding must
-must-foreign X f r p hp s c y at hx le = rw (hp s c y at hx le)
 
 pub map-foreign : {A B : Type 0} (X : ℕ → Type 0) (f : A → B) (p : Reader A) → Foreign X p → Foreign X (map f p)
 unfolding map

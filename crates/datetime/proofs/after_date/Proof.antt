@@ -1,8 +1,11 @@
--- A `T`, another byte, or the end; what the date left open stays so.
-use mathlib.Core.Bool.{true, false}
-use Rattle.parser.specs.Reading.{lit}
+-- A `T`, behind which the date is settled, another byte, or the end; what the date left open stays so.
+use Prim.Native.Nat.{ℕ}
+use mathlib.Core.Bool.{Bool, true, false}
+use mathlib.Core.Path.{_≡_, refl, sym, _∙_}
+use Rattle.parser.specs.Reading.{Found, no, got, lit}
+use Rattle.parser.proofs.Places.{no≢got}
 use Rattle.datetime.specs.Rules.{timeOf, afterDate}
-use Rattle.parser.proofs.Says.{or-false, or-true, says-on, on-seq-got, on-seq-no}
+use Rattle.parser.proofs.Says.{or-false, or-true, says-on, says-seq-got, on-seq-no}
 use borrow.Author.Needs.{needs}
 use Rattle.datetime.proofs.after_date.Statement.{statement}
 use Rattle.datetime.proofs.after_date.Tie as tie
@@ -25,13 +28,18 @@ no-datetime-requires c κs = search needs
 enum-told-2 : tie.Need-enum-told-2
 enum-told-2 c = search needs
 
+-- a T stands here, so that the date was settled
+settled : (b : Bool) {f : Found Unit} {n : ℕ} → (b ≡ true → f ≡ no) → got tt n ≡ f → b ≡ false
+settled true h e = absurd (no≢got (sym (h refl) ∙ sym e))
+settled false h e = refl
+
 returns : tie.Need-returns
 unfolding afterDate
 returns c =
     let a = c .before .before .before .before .before .before .args in
-    on-seq-got (a .more) (lit 84) (λ _. timeOf (a .choices) (a .date)) (a .s .now) (a .at) tt _ (a .more) _ _
-    (rw (or-false (a .more)) at (says-on (lit 84) (a .s .now) (a .at) _ (a .more) false (rw (c .before .before .mark .given .1) at (c .before .before .before .before .literal .ensures))))
-    (c .time-of .ensures)
+    let mark = rw (c .before .before .mark .given .1) at (c .before .before .before .before .literal .ensures) in
+    rw (settled (a .more) (c .before .before .before .before .before .before .pre) (mark .found))
+    (says-on _ (a .s .now) (a .at) _ false _ (says-seq-got (lit 84) (a .s .now) (a .at) (λ _. timeOf (a .choices) (a .date)) tt _ false _ _ mark (c .time-of .ensures)))
 
 returns-2 : tie.Need-returns-2
 unfolding afterDate

@@ -3,6 +3,7 @@ use mathlib.Core.Bool.{true, false}
 use Rattle.date.specs.Rules.{date}
 use Rattle.datetime.specs.Rules.{afterDate, dateTime}
 use Rattle.parser.proofs.Says.{says-seq-on, says-seq-no}
+use Rattle.datetime.proofs.Laws.{open-date}
 use borrow.Author.Needs.{needs}
 use Rattle.datetime.proofs.datetime_at.Statement.{statement}
 use Rattle.datetime.proofs.datetime_at.Tie as tie
@@ -14,7 +15,9 @@ enum-known-found : tie.Need-enum-known-found
 enum-known-found c = search needs
 
 after-date-requires : tie.Need-after-date-requires
-after-date-requires c κs = search needs
+after-date-requires c κs more =
+    let a = c .before .before .before .before .before .args in
+    open-date (a .s .now) (a .at) _ _ (rw (c .before .found .given .1, more) at (c .before .before .before .date-at .ensures))
 
 enum-told : tie.Need-enum-told
 enum-told c = search needs

@@ -13,24 +13,24 @@ returns c =
 
 returns-2 : tie.Need-returns-2
 returns-2 c =
-    let a = c .before .before .before .before .before .before .args in
-    rw (c .verdict-on2 .ensures) (datetime-begins (a .choices) (a .s .now) (stop 1) _ (rw (c .before .before .found2 .given .1) at (c .before .before .before .before .datetime-begun .ensures)))
+    let a = c .before .before .before .before .args in
+    datetime-begins (a .choices) (a .s .now) (stop 1) false (rw (c .enum-told .given .1) at (c .before .before .datetime-begun .ensures))
 
 returns-3 : tie.Need-returns-3
 returns-3 c =
     let a = c .before .before .before .before .args in
-    datetime-begins (a .choices) (a .s .now) _ false (rw (c .enum-told .given .1) at (c .before .before .datetime-begun .ensures))
+    datetime-begins (a .choices) (a .s .now) _ false (rw (c .enum-told2 .given .1) at (c .before .before .datetime-begun .ensures))
 
 returns-4 : tie.Need-returns-4
 returns-4 c =
     let a = c .before .before .before .before .args in
-    datetime-begins (a .choices) (a .s .now) _ true (rw (c .enum-told2 .given .1) at (c .before .before .datetime-begun .ensures))
+    datetime-begins (a .choices) (a .s .now) _ true (rw (c .enum-told3 .given .1) at (c .before .before .datetime-begun .ensures))
 
 pub datetime-spec : {M : Type 1} → statement M
 datetime-spec =
     tie.close
     (tie.spec
-    (λ c κs. search needs) (λ c. search needs) (λ c κs. search needs) (λ c. search needs) (λ c κs. search needs) (λ c. search needs) (λ c. search needs)
+    (λ c κs. search needs) (λ c. search needs) (λ c κs. search needs) (λ c. search needs) (λ c. search needs) (λ c. search needs)
     returns
     returns-2
     returns-3

@@ -20,14 +20,14 @@ datetime-at-requires c κs = search needs
 enum-known-found : tie.Need-enum-known-found
 enum-known-found c = search needs
 
-enum-known-found-2 : tie.Need-enum-known-found-2
-enum-known-found-2 c = search needs
-
 enum-told-2 : tie.Need-enum-told-2
 enum-told-2 c = search needs
 
 enum-told-3 : tie.Need-enum-told-3
 enum-told-3 c = search needs
+
+enum-told-4 : tie.Need-enum-told-4
+enum-told-4 c = search needs
 
 returns : tie.Need-returns
 returns c =
@@ -44,19 +44,18 @@ returns-2 c =
 
 returns-3 : tie.Need-returns-3
 returns-3 c =
-    let x1 = c .before in
-    let x2 = x1 .before .before in
-    rw (x1 .found2 .given .1) at (x2 .datetime-at .ensures)
+    let x1 = c .before .before in
+    rw (c .enum-told2 .given .1) at (x1 .datetime-at .ensures)
 
 returns-4 : tie.Need-returns-4
 returns-4 c =
     let x1 = c .before .before in
-    rw (c .enum-told2 .given .1) at (x1 .datetime-at .ensures)
+    rw (c .enum-told3 .given .1) at (x1 .datetime-at .ensures)
 
 returns-5 : tie.Need-returns-5
 returns-5 c =
     let x1 = c .before .before in
-    rw (c .enum-told3 .given .1) at (x1 .datetime-at .ensures)
+    rw (c .enum-told4 .given .1) at (x1 .datetime-at .ensures)
 
 pub datetime-begun-spec : {M : Type 1} → statement M
 datetime-begun-spec =
@@ -67,9 +66,9 @@ datetime-begun-spec =
     enum-told
     datetime-at-requires
     enum-known-found
-    enum-known-found-2
     enum-told-2
     enum-told-3
+    enum-told-4
     returns
     returns-2
     returns-3
