@@ -2,7 +2,7 @@
 use Prim.Native.Nat.{ℕ, _≤_}
 use mathlib.Core.List.{List, [], _∷_, _++_}
 use mathlib.Core.Bool.{Bool, true, false}
-use mathlib.Core.Path.{_≡_, refl}
+use mathlib.Core.Path.{_≡_, refl, sym}
 use native.Mathlib.Omega.{arith}
 use lib.ListN.{length}
 use borrow.Author.Tests.{le-ltb}
@@ -11,6 +11,7 @@ use Rattle.parser.specs.Reading.{Found, Says}
 use Rattle.parser.specs.Answer.{begun, recorded, verdictOf, Judged, Begins, Ended}
 use Rattle.parser.proofs.Stable.{Stable}
 use Rattle.parser.proofs.Places.{Bounded, Fails}
+use Rattle.parser.proofs.General.{Eager}
 use Rattle.parser.proofs.Hopeful.{Anything, HopefulOr, hopeful-weaken, never-stops}
 use Rattle.parser.proofs.Lawful.{LawfulOr, lawful-begins, widen, map-item}
 use Rattle.date.proofs.Laws.{date-item}
@@ -51,6 +52,14 @@ fails kind.Offset = map-item _ offset-item .fails
 fails (kind.Stamp c) = map-item _ (datetime-item c) .fails
 fails kind.Duration = map-item _ duration-item .fails
 
+-- and there it is open
+eager : (k : Kind) → Eager (ruleOf k)
+eager kind.Date = map-item _ date-item .eager
+eager (kind.Time c) = map-item _ (time-item c) .eager
+eager kind.Offset = map-item _ offset-item .eager
+eager (kind.Stamp c) = map-item _ (datetime-item c) .eager
+eager kind.Duration = map-item _ duration-item .eager
+
 -- where no byte more could matter, every longer input reads the same
 pub stable : (k : Kind) → Stable (ruleOf k)
 stable k = lawful k .steady .stable
@@ -66,6 +75,10 @@ hopeful k = lawful k .hopeful
 -- so what code says of a kind's rule at the beginning is what its beginning reader has to promise
 pub says : (k : Kind) (s : List ℕ) (f : Found Record) (m : Bool) → Says (ruleOf k) s 0 f m → Begins (bound k) (ruleOf k) s (begun f) (verdictOf m)
 says k = lawful-begins (lawful k)
+
+-- so the empty text is open
+pub empty-open : (k : Kind) → Judged (bound k) (ruleOf k) [] Open
+empty-open k = says k [] _ true (record { found = refl; more = sym (eager k [] 0 (omega arith)) }) .verdict
 
 -- ---- where no completion may stop the reading, an open text has one that the whole reader accepts
 

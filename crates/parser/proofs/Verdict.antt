@@ -9,8 +9,9 @@ use native.Mathlib.Omega.{arith}
 use lib.ListN.{length, length-append}
 use Rattle.types.specs.declared.Verdict.{Verdict}
 use Rattle.types.specs.declared.Verdict.the-variants.{Settled, Open}
-use Rattle.parser.specs.Reading.{Found, no, got, stop, Reader, Says}
-use Rattle.parser.specs.Answer.{Told, recorded, refused, begun, Judged, Begins, verdictOf}
+use lib.Dec.{ltb}
+use Rattle.parser.specs.Reading.{Found, no, got, stop, Reader, Says, pick}
+use Rattle.parser.specs.Answer.{Told, recorded, refused, begun, ended, Judged, Begins, verdictOf}
 use Rattle.parser.proofs.Stable.{Stable}
 use Rattle.parser.proofs.Places.{Bounded}
 use Rattle.parser.proofs.Hopeful.{HopefulOr, Changes}
@@ -67,3 +68,18 @@ recorded-once {A} e = (some-once (ap (λ (t : Told A). t .value) e), ap (λ (t :
 
 pub refused-once : {A : Type 0} (q r m n : ℕ) → refused {A = A} q m ≡ refused r n → (q ≡ r) × (m ≡ n)
 refused-once {A} q r m n e = (ap (λ (t : Told A). t .number) e, ap (λ (t : Told A). t .count) e)
+
+-- a record that is told was found, by a beginning reader and by a whole one
+pub begun-got : {A : Type 0} (f : Found A) (a : A) (n : ℕ) → begun f ≡ recorded a n → f ≡ got a n
+begun-got no a n e = absurd (recorded-or-refused (sym e))
+begun-got (stop r) a n e = absurd (recorded-or-refused (sym e))
+begun-got (got b m) a n e = let x = recorded-once e in rw (x .0, x .1)
+
+pub ended-got : {A : Type 0} (all : ℕ) (f : Found A) (a : A) (n : ℕ) → ended all f ≡ recorded a n → f ≡ got a n
+ended-got all no a n e = absurd (recorded-or-refused (sym e))
+ended-got all (stop r) a n e = absurd (recorded-or-refused (sym e))
+ended-got all (got b m) a n e = go (ltb m all) e
+  where
+    go : (t : Bool) → pick t (refused 3 m) (recorded b m) ≡ recorded a n → got b m ≡ got a n
+    go true e = absurd (recorded-or-refused (sym e))
+    go false e = begun-got (got b m) a n e
