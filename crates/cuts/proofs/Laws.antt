@@ -1,13 +1,11 @@
 -- What is said of a line is not long, and what is said of a line's first bytes is said of the line.
-use Prim.Native.Nat.{ℕ, _+_, _*_, _≤_, _<_}
+use Prim.Native.Nat.{ℕ, _+_, _*_, _≤_}
 use mathlib.Core.List.{List, [], _∷_, _++_}
 use mathlib.Core.Bool.{Bool, true, false}
 use mathlib.Core.Path.{_≡_, refl}
 use native.Mathlib.Omega.{arith}
-use lib.Dec.{leb, eqb}
+use lib.Dec.{eqb}
 use lib.ListN.{length, take, length-append}
-use lib.Seq.{take-all, length-take-le}
-use borrow.Author.Tests.{leb-true, leb-false}
 use Rattle.types.specs.declared.Verdict.{Verdict}
 use Rattle.types.specs.declared.Verdict.the-variants.{Settled, Open}
 use Rattle.lines.specs.Lines.{pick, after, onto, splitBy}
@@ -19,8 +17,8 @@ use Rattle.kinds.specs.declared.answer.Letter.the-variants.{Names, Unknown}
 use Rattle.kinds.specs.Kinds.{ruleOf}
 use Rattle.words.specs.Words.{lettersOf, wordText}
 use Rattle.words.specs.Records.{verdictWord}
-use Rattle.reply.specs.Line.{recordOrDash, questionOf, textIn}
-use Rattle.reply.proofs.Asked.{names-short, long-unknown}
+use Rattle.reply.specs.Line.{recordOrDash, headOf, questionOf, textIn}
+use Rattle.reply.proofs.Asked.{head-size, names-short, said-clip}
 use Rattle.reply.proofs.Short.{digits-short, text-short, record-few}
 use Rattle.cuts.specs.Cuts.{pieces, begunText, endText, SaysOf, SaysTo, Says, SaysLine}
 use Rattle.lines.proofs.Pinned.{onto-length}
@@ -71,11 +69,4 @@ line-short l t a = rw (a .ends, length-append (a .said) (10 ∷ [])) (omega (ari
 
 -- what is said of the first 204 bytes of a line, or more of them, is said of the line
 pub says-clip : (limit : ℕ) (l t : List ℕ) → 204 ≤ limit → SaysLine (take limit l) t → SaysLine l t
-says-clip limit l t h a = step (leb (length l) limit) refl
-  where
-    step : (b : Bool) → leb (length l) limit ≡ b → SaysLine l t
-    step true e = rw (take-all limit l (leb-true (length l) limit e)) at a
-    step false e =
-        let long : limit < length l = omega (arith, leb-false (length l) limit e) in
-        let clipped : 203 < length (take limit l) = rw (length-take-le limit l (omega arith)) (omega arith) in
-        record { said = a .said; says = rw (long-unknown l (omega arith)) (rw (long-unknown (take limit l) clipped) at (a .says)); ends = a .ends }
+says-clip limit l t h a = record { said = a .said; says = said-clip headOf (λ m. head-size m .1) (λ q s. SaysTo q s (a .said)) (λ s u e. e) limit l h (a .says); ends = a .ends }

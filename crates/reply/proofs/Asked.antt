@@ -5,56 +5,68 @@ use mathlib.Core.Bool.{Bool, true, false}
 use mathlib.Core.Path.{_≡_, refl}
 use native.Mathlib.Omega.{arith}
 use lib.Dec.{leb, eqb}
-use lib.ListN.{length, getD, take, length-drop}
+use lib.ListN.{length, getD, take, drop, length-drop}
 use lib.Seq.{take-all, length-take-le}
 use borrow.Author.Tests.{leb-true, leb-false, le-leb, lt-leb}
-use Rattle.types.specs.Editions.{document01, edition2004}
+use Rattle.types.specs.Editions.{edition2004}
 use Rattle.parser.specs.Reading.{pick}
 use Rattle.kinds.specs.declared.answer.Kind.{Kind}
 use Rattle.kinds.specs.declared.answer.Letter.{Letter}
 use Rattle.kinds.specs.declared.answer.Letter.the-variants.{Names, Unknown}
 use Rattle.reply.specs.declared.Head.{Head}
-use Rattle.reply.specs.Line.{headOf, questionIn, questionOf, textIn, Answers}
+use Rattle.reply.specs.Line.{plainHead, headOf, questionIn, questionOf, textIn, AnswersTo, Answers}
 
 -- a head is two bytes or three
 pub head-size : (l : List ℕ) → (2 ≤ headOf l .from) × (headOf l .from ≤ 3)
 unfolding headOf
 head-size l = go (eqb (getD l 1 0) 52)
   where
-    go : (t : Bool) → let h : Head = pick t (record { from = 3; choices = edition2004 }) (record { from = 2; choices = document01 }) in (2 ≤ h .from) × (h .from ≤ 3)
+    go : (t : Bool) → let h : Head = pick t (record { from = 3; choices = edition2004 }) plainHead in (2 ≤ h .from) × (h .from ≤ 3)
     go true = (omega arith, omega arith)
     go false = (omega arith, omega arith)
 
-pub names-long : (l : List ℕ) (k : Kind) → questionOf l ≡ Names k → headOf l .from ≤ length l
-unfolding questionIn
-names-long l k e = go _ (leb (headOf l .from) (length l)) refl e
-  where
-    go : (x : Letter) (t : Bool) → leb (headOf l .from) (length l) ≡ t → pick t x Unknown ≡ Names k → headOf l .from ≤ length l
-    go x true h e = leb-true (headOf l .from) (length l) h
-    go x false h e = let z : _≡_ {A = ℕ} 0 1 = cc in absurd (omega arith)
+module _ (h : Head) (l : List ℕ) where
+  pub names-long-in : (k : Kind) → questionIn h l ≡ Names k → h .from ≤ length l
+  unfolding questionIn
+  names-long-in k e = go _ (leb (h .from) (length l)) refl e
+    where
+      go : (x : Letter) (t : Bool) → leb (h .from) (length l) ≡ t → pick t x Unknown ≡ Names k → h .from ≤ length l
+      go x true i e = leb-true (h .from) (length l) i
+      go x false i e = let z : _≡_ {A = ℕ} 0 1 = cc in absurd (omega arith)
 
--- the text is too long
-past-unknown : (l : List ℕ) → headOf l .from + 200 < length l → questionOf l ≡ Unknown
-unfolding questionIn
-past-unknown l h = rw (le-leb (headOf l .from) (length l) (omega arith), lt-leb (length l) (headOf l .from + 200) h)
+  -- the text is too long
+  past-unknown : h .from + 200 < length l → questionIn h l ≡ Unknown
+  unfolding questionIn
+  past-unknown i = rw (le-leb (h .from) (length l) (omega arith), lt-leb (length l) (h .from + 200) i)
+
+  pub names-short-in : (k : Kind) → questionIn h l ≡ Names k → length (drop (h .from) l) ≤ 200
+  names-short-in k e = go (leb (length l) (h .from + 200)) refl
+    where
+      go : (t : Bool) → leb (length l) (h .from + 200) ≡ t → length (drop (h .from) l) ≤ 200
+      go true i = omega (arith, length-drop (h .from) l, leb-true (length l) (h .from + 200) i)
+      go false i = let u = past-unknown (leb-false (length l) (h .from + 200) i) in let z : _≡_ {A = ℕ} 0 1 = cc in absurd (omega arith)
+
+pub names-long : (l : List ℕ) (k : Kind) → questionOf l ≡ Names k → headOf l .from ≤ length l
+names-long l = names-long-in (headOf l) l
 
 pub names-short : (l : List ℕ) (k : Kind) → questionOf l ≡ Names k → length (textIn l) ≤ 200
-names-short l k e = go (leb (length l) (headOf l .from + 200)) refl
-  where
-    go : (t : Bool) → leb (length l) (headOf l .from + 200) ≡ t → length (textIn l) ≤ 200
-    go true h = omega (arith, length-drop (headOf l .from) l, leb-true (length l) (headOf l .from + 200) h)
-    go false h = let u = past-unknown l (leb-false (length l) (headOf l .from + 200) h) in let z : _≡_ {A = ℕ} 0 1 = cc in absurd (omega arith)
+names-short l = names-short-in (headOf l) l
 
-pub long-unknown : (l : List ℕ) → 203 < length l → questionOf l ≡ Unknown
-long-unknown l h = past-unknown l (omega (arith, head-size l .1))
+-- What is said of the first 204 bytes of a line, or more of them, is said of the line, by whatever head a program takes: no line that long names a
+-- kind, and what is said of an unknown one does not depend on its text.
+module _ (H : List ℕ → Head) (few : (l : List ℕ) → H l .from ≤ 3) (P : Letter → List ℕ → Type 0) (unknown : (s u : List ℕ) → P Unknown s → P Unknown u) where
+  pub said-clip : (limit : ℕ) (l : List ℕ) → 204 ≤ limit → P (questionIn (H (take limit l)) (take limit l)) (drop (H (take limit l) .from) (take limit l)) → P (questionIn (H l) l) (drop (H l .from) l)
+  said-clip limit l h p = step (leb (length l) limit) refl
+    where
+      long-unknown : (l : List ℕ) → 203 < length l → questionIn (H l) l ≡ Unknown
+      long-unknown l i = past-unknown (H l) l (omega (arith, few l))
 
--- An answer to the first 204 bytes of a line, or more of them, is an answer to the line: no line that long is known.
+      step : (b : Bool) → leb (length l) limit ≡ b → P (questionIn (H l) l) (drop (H l .from) l)
+      step true e = rw (take-all limit l (leb-true (length l) limit e)) at p
+      step false e =
+          let long : limit < length l = omega (arith, leb-false (length l) limit e) in
+          let clipped : 203 < length (take limit l) = rw (length-take-le limit l (omega arith)) (omega arith) in
+          rw (long-unknown l (omega arith)) (unknown _ _ (rw (long-unknown (take limit l) clipped) at p))
+
 pub answers-clip : (shown : Bool) (limit : ℕ) (l t : List ℕ) → 204 ≤ limit → Answers shown (take limit l) t → Answers shown l t
-answers-clip shown limit l t h a = step (leb (length l) limit) refl
-  where
-    step : (b : Bool) → leb (length l) limit ≡ b → Answers shown l t
-    step true e = rw (take-all limit l (leb-true (length l) limit e)) at a
-    step false e =
-        let long : limit < length l = omega (arith, leb-false (length l) limit e) in
-        let clipped : 203 < length (take limit l) = rw (length-take-le limit l (omega arith)) (omega arith) in
-        rw (long-unknown l (omega arith)) (rw (long-unknown (take limit l) clipped) at a)
+answers-clip shown limit l t = said-clip headOf (λ l. head-size l .1) (λ q s. AnswersTo shown q s t) (λ s u e. e) limit l

@@ -57,9 +57,13 @@ pub record Answered (shown : Bool) (k : Kind) (s t : List ℕ) : Type 0 where
   pub ends : Ended (ruleOf k) s whole
   pub says : t ≡ decimal (begun .number) ++ (textOf (headWords (begun .count) shown verdict (whole .number) (whole .count)) ++ textOf (recordOrDash (begun .value)))
 
--- "take `4` behind the letter for edition 2004": where the text of a line begins, behind its space, and what is chosen
+-- where the text of a line begins, behind its space, and what is chosen: behind a letter alone, document 01's
+abbrev pub plainHead : Head
+plainHead = record { from = 2; choices = document01 }
+
+-- "take `4` behind the letter for edition 2004"
 unfoldable pub headOf : List ℕ → Head
-headOf l = pick (eqb (getD l 1 0) 52) (record { from = 3; choices = edition2004 }) (record { from = 2; choices = document01 })
+headOf l = pick (eqb (getD l 1 0) 52) (record { from = 3; choices = edition2004 }) plainHead
 
 -- "a letter [..], a space, and a text of at most 200 bytes"
 unfoldable pub questionIn : Head → List ℕ → Letter
@@ -72,6 +76,13 @@ questionOf l = questionIn (headOf l) l
 
 abbrev pub textIn : List ℕ → List ℕ
 textIn l = drop (headOf l .from) l
+
+-- "`why` has neither"
+abbrev pub plainQuestion : List ℕ → Letter
+plainQuestion l = questionIn plainHead l
+
+abbrev pub plainText : List ℕ → List ℕ
+plainText l = drop (plainHead .from) l
 
 -- "a line of any other form prints `unknown`"
 abbrev pub AnswersTo : Bool → Letter → List ℕ → List ℕ → Type 0

@@ -3,11 +3,12 @@
 //     B COUNT VERDICT W WCOUNT RECORD
 //
 // put into a buffer of the caller's. Programs stand on `answer_line`.
+ghost use Prim.Native.Nat.{_≤_};
 ghost use mathlib.Core.Path.{_≡_};
 ghost use Rattle.kinds.specs.Kinds.{told};
 ghost use Rattle.text.specs.Text.{Puts};
 ghost use Rattle.words.specs.Words.{textOf};
-ghost use Rattle.reply.specs.Line.{firstWords, recordWords, recordOrDash, Gives, Answered, headOf, questionOf, Answers, AnswersLine};
+ghost use Rattle.reply.specs.Line.{firstWords, recordWords, recordOrDash, Gives, Answered, headOf, questionIn, questionOf, plainQuestion, Answers, AnswersLine};
 use kinds::answer::Answer;
 use kinds::answer::Kind;
 use kinds::answer::Letter;
@@ -88,6 +89,14 @@ pub struct Head {
     pub choices: Choices,
 }
 
+impl Head {
+    // A letter and its space, under document 01's choices.
+    pub const PLAIN: Head = Head {
+        from: 2,
+        choices: Choices::DOCUMENT_01,
+    };
+}
+
 // The head of a line, if it has one: two bytes, or three where the second is a `4`.
 pub fn head_of(line: &[u8]) -> Head
     ensures { λ r. ⌜ r ≡ headOf (now (line .entry)) ⌝ }
@@ -102,17 +111,14 @@ pub fn head_of(line: &[u8]) -> Head
             };
         }
     }
-    Head {
-        from: 2,
-        choices: Choices::DOCUMENT_01,
-    }
+    Head::PLAIN
 }
 
-// The kind that a line names, where it is a head and at most 200 bytes. Of a line that is too long the first bytes are enough.
-pub fn question(line: &[u8]) -> Letter
-    ensures { λ r. ⌜ r ≡ questionOf (now (line .entry)) ⌝ }
+// The kind that a line names, where it is that head and at most 200 bytes. Of a line that is too long the first bytes are enough.
+fn question_in(head: Head, line: &[u8]) -> Letter
+    requires { ⌜ (2 ≤ head .from) × (head .from ≤ 3) ⌝ }
+    ensures { λ r. ⌜ r ≡ questionIn head (now (line .entry)) ⌝ }
 {
-    let head = head_of(line);
     let from = head.from;
     if line.len() < from {
         return Letter::Unknown;
@@ -125,6 +131,20 @@ pub fn question(line: &[u8]) -> Letter
     }
     let choices = head.choices;
     kinds::kind_of(line[0], choices)
+}
+
+// The kind that a line names, under the choices of its head.
+pub fn question(line: &[u8]) -> Letter
+    ensures { λ r. ⌜ r ≡ questionOf (now (line .entry)) ⌝ }
+{
+    question_in(head_of(line), line)
+}
+
+// The same where a line names no choices.
+pub fn plain_question(line: &[u8]) -> Letter
+    ensures { λ r. ⌜ r ≡ plainQuestion (now (line .entry)) ⌝ }
+{
+    question_in(Head::PLAIN, line)
 }
 
 // The answer to a line without its end. `shown`: with the verdict, which no other library has.

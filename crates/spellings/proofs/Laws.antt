@@ -1,16 +1,14 @@
 -- What a whole reader gives was read, so that it has a spelling; and no response is long.
-use Prim.Native.Nat.{ℕ, _≤_, _<_}
+use Prim.Native.Nat.{ℕ, _≤_}
 use mathlib.Core.List.{List, [], _∷_, _++_}
 use mathlib.Core.Bool.{Bool, true, false}
-use mathlib.Core.Path.{_≡_, refl, sym}
+use mathlib.Core.Path.{_≡_, refl}
 use native.Mathlib.Omega.{arith}
-use lib.Dec.{ltb, leb}
+use lib.Dec.{ltb}
 use lib.ListN.{length, take, length-append}
-use lib.Seq.{take-all, length-take-le}
-use borrow.Author.Tests.{leb-true, leb-false}
 use Rattle.parser.specs.Reading.{Found, no, got, stop, pick}
 use Rattle.parser.specs.Answer.{recorded, refused, ended}
-use Rattle.parser.proofs.Verdict.{recorded-once, recorded-or-refused}
+use Rattle.parser.proofs.Verdict.{ended-got}
 use Rattle.kinds.specs.declared.answer.Kind.{Kind}
 use Rattle.kinds.specs.declared.answer.Record.{Record}
 use Rattle.kinds.specs.declared.answer.Letter.{Letter}
@@ -18,27 +16,17 @@ use Rattle.kinds.specs.declared.answer.Letter.the-variants.{Names, Unknown}
 use Rattle.kinds.specs.Kinds.{ruleOf, choicesIn}
 use Rattle.text.specs.Text.{decimal}
 use Rattle.words.specs.Words.{lettersOf}
-use Rattle.reply.specs.Line.{questionOf, textIn}
-use Rattle.reply.proofs.Asked.{long-unknown}
+use Rattle.reply.specs.Line.{headOf, questionOf, textIn}
+use Rattle.reply.proofs.Asked.{head-size, said-clip}
 use Rattle.reply.proofs.Short.{digits-short}
 use Rattle.writing.specs.Writing.{Readable}
 use Rattle.writers.specs.Spellings.{kindOf, spelling}
 use Rattle.writers.proofs.Laws.{kind-read, spelling-short}
 use Rattle.spellings.specs.Said.{refusedWord, said, spelledAs, spelledLine}
 
--- a record of the whole reader was found
-whole-got : {A : Type 0} (all : ℕ) (f : Found A) (a : A) (n : ℕ) → ended all f ≡ recorded a n → f ≡ got a n
-whole-got all no a n e = absurd (recorded-or-refused (sym e))
-whole-got all (stop r) a n e = absurd (recorded-or-refused (sym e))
-whole-got all (got b m) a n e = go (ltb m all) e
-  where
-    go : (t : Bool) → pick t (refused 3 m) (recorded b m) ≡ recorded a n → got b m ≡ got a n
-    go true e = absurd (recorded-or-refused (sym e))
-    go false e = let x = recorded-once e in rw (x .0, x .1)
-
 pub whole-readable : (k : Kind) (s : List ℕ) (r : Record) (n : ℕ) → ended (length s) (ruleOf k .reads s 0) ≡ recorded r n → Readable (ruleOf (kindOf (choicesIn k) r)) r
 whole-readable k s r n e =
-    let found = whole-got (length s) (ruleOf k .reads s 0) r n e in
+    let found = ended-got (length s) (ruleOf k .reads s 0) r n e in
     rw (kind-read k s r n found) (record { bytes = s; count = n; reads = found })
 
 -- a spelling has at most 79 bytes, a refusal fewer
@@ -67,11 +55,4 @@ line-short l = go (questionOf l)
 
 -- what is said of the first 204 bytes of a line, or more of them, is said of the line
 pub spelled-clip : (limit : ℕ) (l : List ℕ) → 204 ≤ limit → spelledLine (take limit l) ≡ spelledLine l
-spelled-clip limit l h = step (leb (length l) limit) refl
-  where
-    step : (b : Bool) → leb (length l) limit ≡ b → spelledLine (take limit l) ≡ spelledLine l
-    step true e = rw (take-all limit l (leb-true (length l) limit e))
-    step false e =
-        let long : limit < length l = omega (arith, leb-false (length l) limit e) in
-        let clipped : 203 < length (take limit l) = rw (length-take-le limit l (omega arith)) (omega arith) in
-        rw (long-unknown l (omega arith), long-unknown (take limit l) clipped)
+spelled-clip limit l h = said-clip headOf (λ m. head-size m .1) (λ q s. spelledLine (take limit l) ≡ spelledAs q s ++ 10 ∷ []) (λ s u e. e) limit l h refl
