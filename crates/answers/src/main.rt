@@ -5,5 +5,5 @@
 use stream::Program;
 
 fn main() {
-    filter::run(Program::Answers);
+    filter::run(Program::Answers, b"answers");
 }

@@ -5,6 +5,7 @@
 ghost use Prim.Native.Nat.{_≤_};
 ghost use lib.ListN.{length};
 ghost use Rattle.filter.specs.Served.{Serves};
+use libc::STDERR_FILENO;
 use libc::STDIN_FILENO;
 use libc::STDOUT_FILENO;
 use stream::LIMIT;
@@ -24,28 +25,11 @@ enum Turn {
     Done,
 }
 
-// Tells what failed, and why.
-fn tell(what: &[u8]) {
+// Tells of a program, by its name, what failed and why.
+fn tell(name: &[u8], what: &[u8]) {
+    io::write_all(STDERR_FILENO, name);
     os::fail(what);
     libc::write(STATUS_FILENO, b"1");
-}
-
-fn tell_unread(program: Program) {
-    match program {
-        Program::Answers => tell(b"answers: standard input"),
-        Program::Replay => tell(b"replay: standard input"),
-        Program::Spell => tell(b"spell: standard input"),
-        Program::Pieces => tell(b"pieces: standard input"),
-    }
-}
-
-fn tell_unwritten(program: Program) {
-    match program {
-        Program::Answers => tell(b"answers: standard output"),
-        Program::Replay => tell(b"replay: standard output"),
-        Program::Spell => tell(b"spell: standard output"),
-        Program::Pieces => tell(b"pieces: standard output"),
-    }
 }
 
 // Hands the responses to the lines that a block ends to the write, step by step.
@@ -74,18 +58,25 @@ fn serve_last(program: Program, kept: &[u8], held: usize, out: &mut [u8]) -> boo
 }
 
 // Reads once, and answers what came; at the end of the input, the last line. Done also where something failed, which is told.
-fn one_turn(program: Program, buf: &mut [u8], kept: &mut [u8], held: usize, out: &mut [u8]) -> Turn
+fn one_turn(
+    program: Program,
+    name: &[u8],
+    buf: &mut [u8],
+    kept: &mut [u8],
+    held: usize,
+    out: &mut [u8],
+) -> Turn
     requires { ⌜ (1024 ≤ length (now kept)) × (16384 ≤ length (now out)) ⌝ }
 {
     let got = libc::read(STDIN_FILENO, buf);
     if got < 0 {
-        tell_unread(program);
+        tell(name, b": standard input");
         return Turn::Done;
     }
     let n = io::count(got, buf);
     if n == 0 {
         if !serve_last(program, kept, held, out) {
-            tell_unwritten(program);
+            tell(name, b": standard output");
         }
         return Turn::Done;
     }
@@ -93,20 +84,20 @@ fn one_turn(program: Program, buf: &mut [u8], kept: &mut [u8], held: usize, out:
     match served {
         Served::All { held: count } => Turn::On { held: count },
         Served::Failed => {
-            tell_unwritten(program);
+            tell(name, b": standard output");
             Turn::Done
         }
     }
 }
 
 // A proved loop has to end, and nothing says that an input does. So the loop counts its turns down, from a number that no run uses up.
-fn all_turns(program: Program, buf: &mut [u8], kept: &mut [u8], out: &mut [u8])
+fn all_turns(program: Program, name: &[u8], buf: &mut [u8], kept: &mut [u8], out: &mut [u8])
     requires { ⌜ (1024 ≤ length (now kept)) × (16384 ≤ length (now out)) ⌝ }
 {
     let mut held = 0;
     let mut left = u64::MAX;
     while left > 0 {
-        let next = one_turn(program, buf, kept, held, out);
+        let next = one_turn(program, name, buf, kept, held, out);
         match next {
             Turn::On { held: count } => held = count,
             Turn::Done => return,
@@ -115,9 +106,10 @@ fn all_turns(program: Program, buf: &mut [u8], kept: &mut [u8], out: &mut [u8])
     }
 }
 
-pub fn run(program: Program) {
+// The name is what the program calls itself where it tells that something failed.
+pub fn run(program: Program, name: &[u8]) {
     let mut buf = io::large_buffer();
     let mut kept = [0u8; LIMIT];
     let mut out = io::large_buffer();
-    all_turns(program, &mut buf, &mut kept, &mut out);
+    all_turns(program, name, &mut buf, &mut kept, &mut out);
 }

@@ -3,5 +3,5 @@
 use stream::Program;
 
 fn main() {
-    filter::run(Program::Pieces);
+    filter::run(Program::Pieces, b"pieces");
 }

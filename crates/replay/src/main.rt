@@ -8,5 +8,5 @@
 use stream::Program;
 
 fn main() {
-    filter::run(Program::Replay);
+    filter::run(Program::Replay, b"replay");
 }

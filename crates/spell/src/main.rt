@@ -3,5 +3,5 @@
 use stream::Program;
 
 fn main() {
-    filter::run(Program::Spell);
+    filter::run(Program::Spell, b"spell");
 }

@@ -1,5 +1,6 @@
 -- What programs respond to lines, and what is put for all bytes so far.
 use Prim.Native.Nat.{ℕ, _+_, _-_, _≤_, _<_}
+use mathlib.Core.Bool.{true, false}
 use mathlib.Core.List.{List, [], _∷_, _++_}
 use mathlib.Core.Logic.{_⊎_}
 use mathlib.Core.Path.{_≡_}
@@ -10,8 +11,9 @@ use Rattle.reply.specs.Line.{AnswersLine}
 use Rattle.samples.specs.Samples.{ComparesLine}
 use Rattle.spellings.specs.Said.{spelledLine}
 use Rattle.cuts.specs.Cuts.{SaysLine}
+use Rattle.faults.specs.Faults.{WhyLine}
 use Rattle.stream.specs.declared.Program.{Program}
-use Rattle.stream.specs.declared.Program.the-variants.{Answers, Replay, Spell, Pieces}
+use Rattle.stream.specs.declared.Program.the-variants.{Answers, Replay, Spell, Pieces, Why, WhyShow}
 use Rattle.stream.specs.declared.Reached.{Reached}
 
 -- t is the response of a program to the line l
@@ -20,6 +22,8 @@ Responds Answers l t = AnswersLine l t
 Responds Replay l t = ComparesLine l t
 Responds Spell l t = t ≡ spelledLine l
 Responds Pieces l t = SaysLine l t
+Responds Why l t = WhyLine false l t
+Responds WhyShow l t = WhyLine true l t
 
 -- t is a response to the line l, and what others say of what stands behind it
 pub record First (p : Program) (l : List ℕ) (others : List ℕ → Type 0) (t : List ℕ) : Type 0 where

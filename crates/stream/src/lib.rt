@@ -14,6 +14,8 @@ pub enum Program {
     Replay,
     Spell,
     Pieces,
+    Why,
+    WhyShow,
 }
 
 // No program takes a line of so many bytes, so that of a longer one these are enough. A buffer for what is held has at least as many.
@@ -38,6 +40,8 @@ pub fn respond(program: Program, line: &[u8], out: &mut [u8], at: usize) -> usiz
         Program::Replay => samples::compare_line(line, out, at),
         Program::Spell => spellings::spell_line(line, out, at),
         Program::Pieces => cuts::pieces_line(line, out, at),
+        Program::Why => faults::why_line(line, false, out, at),
+        Program::WhyShow => faults::why_line(line, true, out, at),
     }
 }
 

@@ -7,20 +7,20 @@ use Rattle.filter.proofs.all_turns.Statement.{statement}
 use Rattle.filter.proofs.all_turns.Tie as tie
 
 abbrev Inv-loop : tie.InvT-loop
-Inv-loop program buf₀ kept₀ out₀ held₀ left₀ buf kept out held left = (length buf ≡ length buf₀) × (length kept ≡ length kept₀) × (length out ≡ length out₀)
+Inv-loop program name buf₀ kept₀ out₀ held₀ left₀ buf kept out held left = (length buf ≡ length buf₀) × (length kept ≡ length kept₀) × (length out ≡ length out₀)
 
 abbrev μ-loop : tie.MeasureT-loop
-μ-loop program buf₀ kept₀ out₀ held₀ left₀ buf kept out held left = left
+μ-loop program name buf₀ kept₀ out₀ held₀ left₀ buf kept out held left = left
 
 -- a turn leaves the buffers as long as they were
 sizes : (c : tie.After-one-turn Inv-loop μ-loop)
-    → (length (c .one-turn .last .1 .0) ≡ length (c .before .before .before .before .before .before .before .before .before .args .buf .now))
-    × (length (c .one-turn .last .1 .1 .0) ≡ length (c .before .before .before .before .before .before .before .before .before .args .kept .now))
-    × (length (c .one-turn .last .1 .1 .1 .1 .0) ≡ length (c .before .before .before .before .before .before .before .before .before .args .out .now))
+    → (length (c .one-turn .last .1 .1 .0) ≡ length (c .before .before .before .before .before .before .before .before .before .before .args .buf .now))
+    × (length (c .one-turn .last .1 .1 .1 .0) ≡ length (c .before .before .before .before .before .before .before .before .before .before .args .kept .now))
+    × (length (c .one-turn .last .1 .1 .1 .1 .1 .0) ≡ length (c .before .before .before .before .before .before .before .before .before .before .args .out .now))
 sizes c =
     let k = c .one-turn .kept in
     let inv = c .before .before .before .before .before .loop .inv in
-    (k .1 .0 ∙ inv .0, k .1 .1 .0 ∙ inv .1, k .1 .1 .1 .1 .0 ∙ inv .2)
+    (k .1 .1 .0 ∙ inv .0, k .1 .1 .1 .0 ∙ inv .1, k .1 .1 .1 .1 .1 .0 ∙ inv .2)
 
 pub all-turns-spec : {M : Type 1} → statement M
 all-turns-spec =
