@@ -1,4 +1,4 @@
-/* tirozhbar.h: ISO 8601 offsets, times, dates, date-times and durations, read from bytes and written to them.
+/* tirozhbar.h: ISO 8601 offsets, times, dates, date-times and durations, read from bytes and written to them, and what broke a text.
  *
  * Link with libexports.a, which `rt staticlib exports` writes. The code is proved to do what is said here on every input, where the bytes
  * at TEXT and the slots lie apart. A reader reads the LENGTH bytes at TEXT and writes at most the slots that its kind has; a writer reads
@@ -41,6 +41,15 @@
  * Any other number gets 254, before ROOM is looked at. Under 2004 hour 24 is a record if the minute and the second that are read and every
  * digit of the fraction are 0; else the number is 1. The record's hour is 24, and a date-time keeps the date that stands before it. Such a
  * record is written for 2004 alone: for 2019 no reader leaves it, and the number is 4.
+ *
+ * tirozhbar_why says what broke a text, under 2019: it reads the LENGTH bytes at TEXT, writes a number to PLACE, which lies apart from
+ * them, and returns another:
+ *
+ *     TIROZHBAR_OK                0  tirozhbar_parse_* gives a record; PLACE is LENGTH
+ *     TIROZHBAR_EARLY             1  it does not, but it would with some more bytes behind the text; PLACE is LENGTH
+ *     TIROZHBAR_BAD               2  it would not, whatever bytes follow. PLACE is the index of the first bad byte: the bytes before it could
+ *                                    still be completed, or are a record, and with that byte nothing completes them
+ *     TIROZHBAR_NO_SUCH_KIND    253  KIND is none of the five letters; nothing was written
  */
 #ifndef TIROZHBAR_H
 #define TIROZHBAR_H
@@ -59,6 +68,7 @@ enum {
     TIROZHBAR_LEFT_OVER = 3,
     TIROZHBAR_NO_READER = 4,
     TIROZHBAR_TOO_SHORT = 5,
+    TIROZHBAR_NO_SUCH_KIND = 253,
     TIROZHBAR_NO_SUCH_CHOICE = 254,
     TIROZHBAR_TOO_FEW = 255
 };
@@ -169,6 +179,12 @@ uint32_t tirozhbar_write_date(int64_t *slots, size_t room, uint8_t *text, size_t
 uint32_t tirozhbar_write_datetime(int64_t *slots, size_t room, uint8_t *text, size_t length, uint32_t choices);
 /* The parts that are not 0, with T before time parts; PT0S where all are 0. 9 slots. */
 uint32_t tirozhbar_write_duration(int64_t *slots, size_t room, uint8_t *text, size_t length);
+
+/* What tirozhbar_why returns, beside TIROZHBAR_NO_SUCH_KIND. */
+enum { TIROZHBAR_OK = 0, TIROZHBAR_EARLY = 1, TIROZHBAR_BAD = 2 };
+
+/* What broke the text, of the kind that KIND names: 'd' date, 't' time, 'o' offset, 's' date-time, 'p' duration. */
+uint32_t tirozhbar_why(uint8_t kind, const uint8_t *text, size_t length, uint64_t *place);
 
 #ifdef __cplusplus
 }
