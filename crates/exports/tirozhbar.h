@@ -1,8 +1,9 @@
 /* tirozhbar.h: ISO 8601 offsets, times, dates, date-times and durations, read from bytes and written to them, and what broke a text.
  *
- * Link with libexports.a, which `rt staticlib exports` writes. The code is proved to do what is said here on every input, where the bytes
- * at TEXT and the slots lie apart. A reader reads the LENGTH bytes at TEXT and writes at most the slots that its kind has; a writer reads
- * those slots, and writes slot 0 and at most the LENGTH bytes at TEXT. Neither keeps a state or calls anything.
+ * Link with libexports.a, which `rt staticlib exports` writes, and for tirozhbar_why with libwhys.a, which `rt staticlib whys` writes. The
+ * code is proved to do what is said here on every input, where the bytes at TEXT and the slots lie apart. A reader reads the LENGTH bytes
+ * at TEXT and writes at most the slots that its kind has; a writer reads those slots, and writes slot 0 and at most the LENGTH bytes at
+ * TEXT. No function keeps a state or calls anything.
  *
  * A reader fills an array of ROOM slots and returns a number:
  *

@@ -3,18 +3,13 @@ use Prim.Native.Nat.{ℕ}
 use mathlib.Core.List.{List}
 use mathlib.Core.Path.{_≡_, sym, _∙_}
 use lib.IntN.{ℤ}
-use Rattle.types.specs.Editions.{document01}
 use Rattle.types.specs.declared.Choices.{Choices}
 use Rattle.parser.specs.Reading.{Reader}
 use Rattle.slots.specs.Choosing.{Unnamed}
 use Rattle.slots.proofs.Choosing.{under-once}
 use Rattle.slot_readers.proofs.Once as readers
 use Rattle.slot_writers.proofs.Once as writers
-use Rattle.kinds.specs.declared.answer.Letter.{Letter}
-use Rattle.kinds.specs.declared.answer.Letter.the-variants.{Names, Unknown}
-use Rattle.kinds.specs.Kinds.{letterOf}
-use Rattle.breaks.proofs.Once.{tells-once}
-use Rattle.exports.specs.Promises.{BeginsUnder, EndsUnder, WritesUnder, ExplainsTo, Explains}
+use Rattle.exports.specs.Promises.{BeginsUnder, EndsUnder, WritesUnder}
 
 unnamed-once : {before a b : List ℤ} {q r : ℕ} → Unnamed before a q → Unnamed before b r → (a ≡ b) × (q ≡ r)
 unnamed-once i j = (i .1 ∙ sym (j .1), i .0 ∙ sym (j .0))
@@ -33,14 +28,3 @@ module _ {A : Type 0} (n : ℕ) (p : Choices → Reader A) (slots : A → List �
   written-once =
       under-once (λ c. writers.written-once a b s t q r n (p c) slots spelling before old)
       (λ i j. let one = unnamed-once (i .0) (j .0) in (one .0, i .1 ∙ sym (j .1), one .1))
-
--- ---- what broke a text
-
-explained-to-once : (q : Letter) (s : List ℕ) (before a b m n : ℕ) → ExplainsTo q s before a m → ExplainsTo q s before b n → (a ≡ b) × (m ≡ n)
-explained-to-once (Names k) s before a b m n i j =
-    let same = tells-once k s (i .reason) (j .reason) (i .tells) (j .tells) in
-    (i .place ∙ rw same (sym (j .place)), i .number ∙ rw same (sym (j .number)))
-explained-to-once Unknown s before a b m n i j = (i .1 ∙ sym (j .1), i .0 ∙ sym (j .0))
-
-pub explained-once : (letter : ℕ) (s : List ℕ) (before a b m n : ℕ) → Explains letter s before a m → Explains letter s before b n → (a ≡ b) × (m ≡ n)
-explained-once letter = explained-to-once (letterOf document01 letter)

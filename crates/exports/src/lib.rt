@@ -1,4 +1,4 @@
-// The readers and writers for C, and what broke a text. A reader takes the bytes and an array of slots, fills the slots and returns the paper's number. A writer
+// The readers and writers for C. A reader takes the bytes and an array of slots, fills the slots and returns the paper's number. A writer
 // takes the record from slots as a reader fills them, puts its text into a buffer and returns the paper's number. Of times and date-times
 // a number names the caller's choices; one that names none is refused before anything else is looked at. The layout of the slots stands in
 // slots' specs/Slots.antt, the numbers in its specs/Choosing.antt, and both, for C, in tirozhbar.h.
@@ -11,14 +11,9 @@ ghost use Rattle.slots.specs.Slots.{offsetSlots, timeSlots, dateSlots, dateTime
 ghost use Rattle.slot_readers.specs.Promises.{BeginsIn, EndsIn};
 ghost use Rattle.writing.specs.Spelling.{offsetSpelling, timeSpelling, dateSpelling, dateTimeSpelling, durationSpelling};
 ghost use Rattle.slot_writers.specs.Promise.{WritesFrom};
-ghost use Rattle.exports.specs.Promises.{BeginsUnder, EndsUnder, WritesUnder, Explains};
-use kinds::answer::Letter;
+ghost use Rattle.exports.specs.Promises.{BeginsUnder, EndsUnder, WritesUnder};
 use slots::Chosen;
 use slots::NO_SUCH_CHOICE;
-use types::Choices;
-
-// No letter of a kind.
-const NO_SUCH_KIND: u32 = 253;
 
 // Reads the offset that the bytes begin with.
 #[no_mangle]
@@ -162,20 +157,4 @@ pub extern "C" fn tirozhbar_write_duration(slots: &mut [i64], text: &mut [u8]) -
     ensures { λ r. ⌜ WritesFrom 9 duration durationSlots durationSpelling (now (slots .entry)) (now (slots .exit)) (now (text .entry)) (now (text .exit)) r ⌝ }
 {
     slot_writers::write_duration(slots, text)
-}
-
-// Says what broke a text of the kind that a letter names, under document 01's choices, and how long the part is that is handed back.
-#[no_mangle]
-pub extern "C" fn tirozhbar_why(kind: u8, s: &[u8], place: &mut u64) -> u32
-    ensures { λ r. ⌜ Explains kind (now (s .entry)) (now (place .entry)) (now (place .exit)) r ⌝ }
-{
-    let named = kinds::kind_of(kind, Choices::DOCUMENT_01);
-    match named {
-        Letter::Names(kind) => {
-            let reason = breaks::why(kind, s);
-            *place = reason.handed(s.len()) as u64;
-            reason.number()
-        }
-        Letter::Unknown => NO_SUCH_KIND,
-    }
 }

@@ -1,8 +1,8 @@
 -- The reason that is told of the text, in two numbers.
 use mathlib.Core.Path.{refl}
 use borrow.Author.Needs.{needs}
-use Rattle.exports.proofs.tirozhbar_why.Statement.{statement}
-use Rattle.exports.proofs.tirozhbar_why.Tie as tie
+use Rattle.whys.proofs.tirozhbar_why.Statement.{statement}
+use Rattle.whys.proofs.tirozhbar_why.Tie as tie
 
 pub tirozhbar-why-spec : {M : Type 1} → statement M
 tirozhbar-why-spec =

@@ -1,0 +1,27 @@
+-- What broke a text, told to a C caller, who names a kind by its letter.
+use Prim.Native.Nat.{ℕ}
+use mathlib.Core.List.{List}
+use mathlib.Core.Path.{_≡_}
+use lib.ListN.{length}
+use Rattle.types.specs.Editions.{document01}
+use Rattle.kinds.specs.declared.answer.Kind.{Kind}
+use Rattle.kinds.specs.declared.answer.Letter.{Letter}
+use Rattle.kinds.specs.declared.answer.Letter.the-variants.{Names, Unknown}
+use Rattle.kinds.specs.Kinds.{letterOf}
+use Rattle.breaks.specs.declared.Reason.{Reason}
+use Rattle.breaks.specs.Breaks.{Tells, handed, numbered}
+
+-- 0 ok, 1 early, 2 bad, and the length of the part handed back
+pub record Reasoned (k : Kind) (s : List ℕ) (n r : ℕ) : Type 0 where
+  pub reason : Reason
+  pub tells : Tells k s reason
+  pub number : r ≡ numbered reason
+  pub place : n ≡ handed (length s) reason
+
+-- a letter that names no kind: 253, and nothing is written
+abbrev pub ExplainsTo : Letter → List ℕ → ℕ → ℕ → ℕ → Type 0
+ExplainsTo (Names k) s before after r = Reasoned k s after r
+ExplainsTo Unknown s before after r = (r ≡ 253) × (after ≡ before)
+
+abbrev pub Explains : ℕ → List ℕ → ℕ → ℕ → ℕ → Type 0
+Explains letter s before after r = ExplainsTo (letterOf document01 letter) s before after r
