@@ -127,7 +127,7 @@ breaks-at k s low high b h =
 
 -- ---- what is handed back
 
-pub handed-within : (k : Kind) (s : List ℕ) (r : Reason) → Tells k s r → handed (length s) r ≤ length s
-handed-within k s Ok t = omega arith
-handed-within k s Early t = omega arith
-handed-within k s (Bad n) t = omega (arith, t .1 .within)
+pub handed-within : (k : Kind) (s : List ℕ) (r : Reason) → Tells k s r → (all : ℕ) → all ≤ length s → handed all r ≤ length s
+handed-within k s Ok t all h = h
+handed-within k s Early t all h = h
+handed-within k s (Bad n) t all h = omega (arith, t .1 .within)

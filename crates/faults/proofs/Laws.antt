@@ -14,8 +14,7 @@ use Rattle.reply.proofs.Asked.{names-short-in, said-clip}
 use Rattle.reply.proofs.Short.{digits-short}
 use Rattle.breaks.specs.declared.Reason.{Reason}
 use Rattle.breaks.specs.declared.Reason.the-variants.{Ok, Early, Bad}
-use Rattle.breaks.specs.Breaks.{Tells, handed}
-use Rattle.breaks.proofs.Laws.{handed-within}
+use Rattle.breaks.specs.Breaks.{Tells}
 use Rattle.breaks.proofs.Once.{tells-once}
 use Rattle.faults.specs.Faults.{reasonText, printedOf, printed, drawn, drawing, Explains, SaysTo, WhyLine}
 
@@ -42,7 +41,7 @@ drawing-short : (shown : Bool) (k : Kind) (s : List ℕ) (r : Reason) → Tells 
 drawing-short false k s r t = omega arith
 drawing-short true k s Ok t = omega arith
 drawing-short true k s Early t = drawn-short s (length s) (omega arith)
-drawing-short true k s (Bad n) t = drawn-short s n (handed-within k s (Bad n) t)
+drawing-short true k s (Bad n) t = drawn-short s n (omega (arith, t .1 .within))
 
 pub line-short : (shown : Bool) (l t : List ℕ) → WhyLine shown l t → length t ≤ 512
 unfolding lettersOf

@@ -1,6 +1,7 @@
 -- What is handed back is as long as the reason says.
 use Prim.Native.Nat.{_≤_}
 use mathlib.Core.Path.{sym}
+use native.Mathlib.Omega.{arith}
 use borrow.Author.Needs.{needs}
 use lib.ListN.{length}
 use lib.Seq.{length-take-le}
@@ -9,7 +10,7 @@ use Rattle.breaks.proofs.part.Statement.{statement}
 use Rattle.breaks.proofs.part.Tie as tie
 
 within : (c : tie.After-handed) → c .handed .result ≤ length (c .before .before .before .args .s .now)
-within c = rw (c .handed .ensures) (handed-within _ _ (c .before .why .result) (c .before .why .ensures))
+within c = rw (c .handed .ensures) (handed-within _ _ (c .before .why .result) (c .before .why .ensures) _ (omega arith))
 
 pub part-spec : {M : Type 1} → statement M
 part-spec =
