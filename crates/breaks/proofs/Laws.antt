@@ -4,13 +4,13 @@ use mathlib.Core.List.{List, [], _∷_, _++_, append-assoc, append-nil}
 use mathlib.Core.Bool.{Bool, true, false}
 use mathlib.Core.Path.{_≡_, refl, sym, ap, _∙_}
 use native.Mathlib.Omega.{arith}
-use lib.Dec.{eqb}
+use lib.Dec.{ltb}
 use lib.ListN.{length, take, drop, length-append, take-append-drop}
 use lib.Seq.{take-length, take-take}
-use borrow.Author.Tests.{eqb-true, eq-eqb, le-ltb}
+use borrow.Author.Tests.{eqb-true, eq-eqb, le-ltb, ltb-false}
 use Rattle.types.specs.declared.Verdict.the-variants.{Settled, Open}
-use Rattle.parser.specs.Reading.{got}
-use Rattle.parser.specs.Answer.{recorded, begun, Judged}
+use Rattle.parser.specs.Reading.{got, pick}
+use Rattle.parser.specs.Answer.{recorded, refused, begun, ended, Judged}
 use Rattle.parser.proofs.Fields.{true≢false}
 use Rattle.parser.proofs.Verdict.{recorded-or-refused, recorded-once, begun-got, ended-got}
 use Rattle.kinds.specs.declared.answer.Kind.{Kind}
@@ -36,11 +36,19 @@ never kind.Duration w = w
 module _ (k : Kind) where
   -- ---- accepted, and what the rule finds
 
+  -- a record of the whole reader takes all bytes: fewer are refused, and more are not there
   accepts-got : (s : List ℕ) (a : Accepts k s) → ruleOf (under2019 k) .reads s 0 ≡ got (a .value) (length s)
-  accepts-got s a = ended-got (length s) _ (a .value) (length s) (sym (a .whole))
+  accepts-got s a = found ∙ ap (got (a .value)) (go (ltb (a .count) (length s)) refl (a .whole ∙ ap (ended (length s)) found))
+    where
+      found : ruleOf (under2019 k) .reads s 0 ≡ got (a .value) (a .count)
+      found = ended-got (length s) _ (a .value) (a .count) (sym (a .whole))
+
+      go : (t : Bool) → ltb (a .count) (length s) ≡ t → recorded (a .value) (a .count) ≡ pick t (refused 3 (a .count)) (recorded (a .value) (a .count)) → a .count ≡ length s
+      go true h e = absurd (recorded-or-refused e)
+      go false h e = omega (arith, ltb-false (a .count) (length s) h, bounded (under2019 k) s 0 (omega arith) (a .value) (a .count) found)
 
   got-accepts : (s : List ℕ) (v : Record) → ruleOf (under2019 k) .reads s 0 ≡ got v (length s) → Accepts k s
-  got-accepts s v e = record { value = v; whole = rw (e, le-ltb (length s) (length s) (omega arith)) }
+  got-accepts s v e = record { value = v; count = length s; whole = rw (e, le-ltb (length s) (length s) (omega arith)) }
 
   -- ---- what can be completed
 
@@ -48,7 +56,7 @@ module _ (k : Kind) where
   accepts-completable s a = record { more = []; accepted = rw (append-nil s) a }
 
   pub open-completable : (s : List ℕ) → Judged (bound (under2019 k)) (ruleOf (under2019 k)) s Open → Completable k s
-  open-completable s other = let c = open-completed (under2019 k) (never k) s other in record { more = c .more; accepted = record { value = c .value; whole = c .accepted } }
+  open-completable s other = let c = open-completed (under2019 k) (never k) s other in record { more = c .more; accepted = record { value = c .value; count = length (s ++ c .more); whole = c .accepted } }
 
   -- settled, and not accepted: a continuation that is accepted would get the same answer, whose count lies within the text
   settled-refused : (s : List ℕ) → Judged (bound (under2019 k)) (ruleOf (under2019 k)) s Settled → (Accepts k s → ⊥) → Completable k s → ⊥

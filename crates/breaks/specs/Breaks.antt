@@ -26,10 +26,11 @@ under2019 kind.Offset = kind.Offset
 under2019 (kind.Stamp c) = kind.Stamp document01
 under2019 kind.Duration = kind.Duration
 
--- "the whole reader accepts the line": it answers with a record of all bytes
+-- "the whole reader accepts the line": it answers with a record
 pub record Accepts (k : Kind) (s : List ℕ) : Type 0 where
   pub value : Record
-  pub whole : Ended (ruleOf (under2019 k)) s (recorded value (length s))
+  pub count : ℕ
+  pub whole : Ended (ruleOf (under2019 k)) s (recorded value count)
 
 -- "some continuation of it is accepted", perhaps the empty one
 pub record Completable (k : Kind) (s : List ℕ) : Type 0 where
