@@ -1,18 +1,17 @@
 -- A text can be completed exactly where it is open or accepted, and so can all that it begins with.
-use Prim.Native.Nat.{ℕ, _+_, _≤_, _<_}
+use Prim.Native.Nat.{ℕ, _+_, _-_, _/_, _≤_, _<_}
 use mathlib.Core.List.{List, [], _∷_, _++_, append-assoc, append-nil}
-use mathlib.Core.Bool.{Bool, true, false}
+use mathlib.Core.Bool.{true, false}
 use mathlib.Core.Path.{_≡_, refl, sym, ap, _∙_}
 use native.Mathlib.Omega.{arith}
-use lib.Dec.{ltb}
 use lib.ListN.{length, take, drop, length-append, take-append-drop}
 use lib.Seq.{take-length, take-take}
-use borrow.Author.Tests.{eqb-true, eq-eqb, le-ltb, ltb-false}
+use borrow.Author.Tests.{eqb-true, eq-eqb, le-ltb}
 use Rattle.types.specs.declared.Verdict.the-variants.{Settled, Open}
-use Rattle.parser.specs.Reading.{got, pick}
-use Rattle.parser.specs.Answer.{recorded, refused, begun, ended, Judged}
+use Rattle.parser.specs.Reading.{got}
+use Rattle.parser.specs.Answer.{recorded, begun, Judged}
 use Rattle.parser.proofs.Fields.{true≢false}
-use Rattle.parser.proofs.Verdict.{recorded-or-refused, recorded-once, begun-got, ended-got}
+use Rattle.parser.proofs.Verdict.{recorded-or-refused, recorded-once, begun-got, ended-got, ended-all}
 use Rattle.kinds.specs.declared.answer.Kind.{Kind}
 use Rattle.kinds.specs.declared.answer.Kind.the-variants as kind
 use Rattle.kinds.specs.declared.answer.Record.{Record}
@@ -23,7 +22,8 @@ use Rattle.kinds.specs.Kinds.{ruleOf, bound, told, Reads}
 use Rattle.kinds.proofs.Laws.{MayStopOf, bounded, empty-open, open-completed}
 use Rattle.breaks.specs.declared.Reason.{Reason}
 use Rattle.breaks.specs.declared.Reason.the-variants.{Ok, Early, Bad}
-use Rattle.breaks.specs.Breaks.{under2019, Accepts, Completable, BreaksAt, Tells, handed, wholly}
+use Rattle.breaks.specs.Breaks.{under2019, Accepts, Completable, BreaksAt, Tells, handed}
+use Rattle.breaks.specs.Standing.{wholly}
 
 -- under 2019 no completion may stop the reading
 never : (k : Kind) → MayStopOf (under2019 k) → ⊥
@@ -38,14 +38,12 @@ module _ (k : Kind) where
 
   -- a record of the whole reader takes all bytes: fewer are refused, and more are not there
   accepts-got : (s : List ℕ) (a : Accepts k s) → ruleOf (under2019 k) .reads s 0 ≡ got (a .value) (length s)
-  accepts-got s a = found ∙ ap (got (a .value)) (go (ltb (a .count) (length s)) refl (a .whole ∙ ap (ended (length s)) found))
-    where
-      found : ruleOf (under2019 k) .reads s 0 ≡ got (a .value) (a .count)
-      found = ended-got (length s) _ (a .value) (a .count) (sym (a .whole))
-
-      go : (t : Bool) → ltb (a .count) (length s) ≡ t → recorded (a .value) (a .count) ≡ pick t (refused 3 (a .count)) (recorded (a .value) (a .count)) → a .count ≡ length s
-      go true h e = absurd (recorded-or-refused e)
-      go false h e = omega (arith, ltb-false (a .count) (length s) h, bounded (under2019 k) s 0 (omega arith) (a .value) (a .count) found)
+  accepts-got s a =
+      let reading = ruleOf (under2019 k) .reads s 0 in
+      let found = ended-got (length s) reading (a .value) (a .count) (sym (a .whole)) in
+      let enough = ended-all (length s) reading (a .value) (a .count) (sym (a .whole)) in
+      let all : a .count ≡ length s = omega (arith, enough, bounded (under2019 k) s 0 (omega arith) (a .value) (a .count) found) in
+      found ∙ ap (got (a .value)) all
 
   got-accepts : (s : List ℕ) (v : Record) → ruleOf (under2019 k) .reads s 0 ≡ got v (length s) → Accepts k s
   got-accepts s v e = record { value = v; count = length s; whole = rw (e, le-ltb (length s) (length s) (omega arith)) }
@@ -121,12 +119,13 @@ breaks-between k s broken = record { some = nonzero s broken; within = omega ari
     nonzero [] broken = absurd (broken (empty-completable k))
     nonzero (b ∷ s) broken = omega arith
 
-module _ {k : Kind} {s : List ℕ} {low high : ℕ} (middle : ℕ) (b : Between k s low high) (on : low < middle) (in-it : middle < high) where
-  pub up : Completable k (take middle s) → Between k s middle high
-  up c = record { some = in-it; within = b .within; before = c; behind = b .behind }
+-- halved, by how the text stands up to the middle
+module _ {k : Kind} {s : List ℕ} {low high : ℕ} (b : Between k s low high) (more : 1 < high - low) where
+  pub raised : Completable k (take (low + (high - low) / 2) s) → Between k s (low + (high - low) / 2) high
+  raised c = record { some = omega arith; within = b .within; before = c; behind = b .behind }
 
-  pub down : (Completable k (take middle s) → ⊥) → Between k s low middle
-  down broken = record { some = on; within = omega (arith, b .within); before = b .before; behind = broken }
+  pub lowered : (Completable k (take (low + (high - low) / 2) s) → ⊥) → Between k s low (low + (high - low) / 2)
+  lowered broken = record { some = omega arith; within = omega (arith, b .within); before = b .before; behind = broken }
 
 pub breaks-at : (k : Kind) (s : List ℕ) (low high : ℕ) → Between k s low high → high ≤ low + 1 → BreaksAt k s low
 breaks-at k s low high b h =

@@ -1,22 +1,16 @@
 -- What broke a text, over the whole reader of its kind and all continuations.
 use Prim.Native.Nat.{ℕ, _+_, _<_}
-use mathlib.Core.Bool.{Bool, false}
 use mathlib.Core.List.{List, _++_}
 use mathlib.Core.Path.{_≡_}
-use lib.Dec.{eqb}
 use lib.ListN.{length, take}
 use Rattle.types.specs.Editions.{document01}
 use Rattle.parser.specs.Answer.{recorded, Ended}
 use Rattle.kinds.specs.declared.answer.Kind.{Kind}
 use Rattle.kinds.specs.declared.answer.Kind.the-variants as kind
 use Rattle.kinds.specs.declared.answer.Record.{Record}
-use Rattle.kinds.specs.declared.answer.Answer.{Answer}
-use Rattle.kinds.specs.declared.answer.Answer.the-variants as answer
 use Rattle.kinds.specs.Kinds.{ruleOf}
 use Rattle.breaks.specs.declared.Reason.{Reason}
 use Rattle.breaks.specs.declared.Reason.the-variants.{Ok, Early, Bad}
-use Rattle.breaks.specs.declared.Standing.{Standing}
-use Rattle.breaks.specs.declared.Standing.the-variants.{Accepted, Unfinished, Broken}
 
 -- "under 2019 rules", whatever choices a kind is named with
 abbrev pub under2019 : Kind → Kind
@@ -67,15 +61,3 @@ abbrev pub numbered : Reason → ℕ
 numbered Ok = 0
 numbered Early = 1
 numbered (Bad n) = 2
-
--- ---- what one reading tells
-
--- an answer is a record of so many bytes
-abbrev pub wholly : Answer → ℕ → Bool
-wholly (answer.Record v n) all = eqb n all
-wholly (answer.Refused why n) all = false
-
-abbrev pub Stands : Kind → List ℕ → Standing → Type 0
-Stands k s Accepted = Accepts k s
-Stands k s Unfinished = (Accepts k s → ⊥) × Completable k s
-Stands k s Broken = Completable k s → ⊥

@@ -1,10 +1,10 @@
--- What is said of a line is not long, it is said of the line's first bytes too, and no two texts are said of one line.
+-- What is said of a line is not long, what is said of a line's first bytes is said of the line, and no two texts are said of one line.
 use Prim.Native.Nat.{ℕ, zero, suc, _+_, _≤_, _<_}
 use mathlib.Core.Bool.{Bool, true, false}
-use mathlib.Core.List.{List, [], _∷_, _++_}
-use mathlib.Core.Path.{_≡_, refl, sym, ap, _∙_}
+use mathlib.Core.List.{List, [], _∷_}
+use mathlib.Core.Path.{_≡_, refl, sym, _∙_}
 use native.Mathlib.Omega.{arith}
-use lib.ListN.{length, getD, take, replicate, length-append, length-replicate}
+use lib.ListN.{length, getD, take, length-append, length-replicate}
 use Rattle.kinds.specs.declared.answer.Kind.{Kind}
 use Rattle.kinds.specs.declared.answer.Letter.{Letter}
 use Rattle.kinds.specs.declared.answer.Letter.the-variants.{Names, Unknown}
@@ -16,7 +16,7 @@ use Rattle.breaks.specs.declared.Reason.{Reason}
 use Rattle.breaks.specs.declared.Reason.the-variants.{Ok, Early, Bad}
 use Rattle.breaks.specs.Breaks.{Tells}
 use Rattle.breaks.proofs.Once.{tells-once}
-use Rattle.faults.specs.Faults.{reasonText, printedOf, printed, drawn, drawing, Explains, SaysTo, WhyLine}
+use Rattle.faults.specs.Faults.{reasonText, printedOf, printed, drawn, drawing, Explains, WhyTo, WhyLine}
 
 reason-short : (all : ℕ) (r : Reason) → length (reasonText all r) ≤ 26
 reason-short all Ok = omega arith
@@ -47,7 +47,7 @@ pub line-short : (shown : Bool) (l t : List ℕ) → WhyLine shown l t → lengt
 unfolding lettersOf
 line-short shown l t a = go (plainQuestion l) refl a
   where
-    go : (q : Letter) → plainQuestion l ≡ q → SaysTo shown q (plainText l) t → length t ≤ 512
+    go : (q : Letter) → plainQuestion l ≡ q → WhyTo shown q (plainText l) t → length t ≤ 512
     go (Names k) e a =
         let s = plainText l in
         rw (a .says) (simp length-append (omega (arith, reason-short (length s) (a .reason), drawing-short shown k s (a .reason) (a .tells), names-short-in plainHead l k e)))
@@ -55,12 +55,12 @@ line-short shown l t a = go (plainQuestion l) refl a
 
 -- what is said of the first 204 bytes of a line, or more of them, is said of the line
 pub line-clip : (shown : Bool) (limit : ℕ) (l t : List ℕ) → 204 ≤ limit → WhyLine shown (take limit l) t → WhyLine shown l t
-line-clip shown limit l t = said-clip (λ m. plainHead) (λ m. omega arith) (λ q s. SaysTo shown q s t) (λ s u e. e) limit l
+line-clip shown limit l t = said-clip (λ m. plainHead) (λ m. omega arith) (λ q s. WhyTo shown q s t) (λ s u e. e) limit l
 
 explains-once : (shown : Bool) (k : Kind) (s t u : List ℕ) → Explains shown k s t → Explains shown k s u → t ≡ u
 explains-once shown k s t u a b = a .says ∙ rw (tells-once k s (a .reason) (b .reason) (a .tells) (b .tells)) (sym (b .says))
 
-says-once : (shown : Bool) (q : Letter) (s t u : List ℕ) → SaysTo shown q s t → SaysTo shown q s u → t ≡ u
+says-once : (shown : Bool) (q : Letter) (s t u : List ℕ) → WhyTo shown q s t → WhyTo shown q s u → t ≡ u
 says-once shown (Names k) s t u a b = explains-once shown k s t u a b
 says-once shown Unknown s t u a b = a ∙ sym b
 

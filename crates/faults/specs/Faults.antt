@@ -63,9 +63,9 @@ pub record Explains (shown : Bool) (k : Kind) (s t : List ℕ) : Type 0 where
   pub says : t ≡ reasonText (length s) reason ++ (10 ∷ []) ++ drawing shown s reason
 
 -- "and `unknown` for a line of any other form"
-abbrev pub SaysTo : Bool → Letter → List ℕ → List ℕ → Type 0
-SaysTo shown (Names k) s t = Explains shown k s t
-SaysTo shown Unknown s t = t ≡ lettersOf name.Unknown ++ (10 ∷ [])
+abbrev pub WhyTo : Bool → Letter → List ℕ → List ℕ → Type 0
+WhyTo shown (Names k) s t = Explains shown k s t
+WhyTo shown Unknown s t = t ≡ lettersOf name.Unknown ++ (10 ∷ [])
 
 abbrev pub WhyLine : Bool → List ℕ → List ℕ → Type 0
-WhyLine shown l t = SaysTo shown (plainQuestion l) (plainText l) t
+WhyLine shown l t = WhyTo shown (plainQuestion l) (plainText l) t

@@ -5,11 +5,11 @@
 ghost use Prim.Native.Nat.{_≤_};
 ghost use lib.ListN.{length};
 ghost use Rattle.filter.specs.Served.{Serves};
-use libc::STDERR_FILENO;
 use libc::STDIN_FILENO;
 use libc::STDOUT_FILENO;
 use stream::LIMIT;
 use stream::Program;
+use text::put;
 
 const STATUS_FILENO: i32 = 3;
 
@@ -25,10 +25,12 @@ enum Turn {
     Done,
 }
 
-// Tells of a program, by its name, what failed and why.
+// Tells of a program, by its name, what failed and why: at one go, since a call between would leave another reason. A longer name is cut.
 fn tell(name: &[u8], what: &[u8]) {
-    io::write_all(STDERR_FILENO, name);
-    os::fail(what);
+    let mut line = [0u8; 64];
+    let next = put(&mut line, 0, name);
+    let next = put(&mut line, next, what);
+    os::fail(&line[..next]);
     libc::write(STATUS_FILENO, b"1");
 }
 

@@ -13,7 +13,7 @@ use Rattle.parser.proofs.Stable.{Stable}
 use Rattle.parser.proofs.Places.{Bounded, Fails}
 use Rattle.parser.proofs.General.{Eager}
 use Rattle.parser.proofs.Hopeful.{Anything, HopefulOr, hopeful-weaken, never-stops}
-use Rattle.parser.proofs.Lawful.{LawfulOr, lawful-begins, widen, map-item}
+use Rattle.parser.proofs.Lawful.{LawfulOr, lawful-begins, ItemOr, widen, map-item}
 use Rattle.date.proofs.Laws.{date-item}
 use Rattle.time.proofs.Laws.{MayStop, time-item}
 use Rattle.offset.proofs.Laws.{offset-item}
@@ -36,29 +36,27 @@ MayStopOf kind.Offset = ⊥
 MayStopOf (kind.Stamp c) = MayStop (c .edition)
 MayStopOf kind.Duration = ⊥
 
--- stable, within the input, deaf to every other byte, and hopeful with its bound
+-- stable, within the input, deaf to every other byte, and hopeful with its bound; and past the end nothing is found, and it is open there
+record LawsOf (k : Kind) : Type 0 where
+  lawful : LawfulOr (MayStopOf k) bytes (bound k) Anything (ruleOf k)
+  fails : Fails (ruleOf k)
+  eager : Eager (ruleOf k)
+
+of-item : {k : Kind} {Y : ℕ → Bool} {j : ℕ} → ItemOr (MayStopOf k) bytes Y j (bound k) Anything (ruleOf k) → LawsOf k
+of-item i = record { lawful = i .lawful; fails = i .fails; eager = i .eager }
+
+laws : (k : Kind) → LawsOf k
+laws kind.Date = of-item (widen refl (map-item _ date-item))
+laws (kind.Time c) = of-item (widen refl (map-item _ (time-item c)))
+laws kind.Offset = of-item (widen refl (map-item _ offset-item))
+laws (kind.Stamp c) = of-item (widen refl (map-item _ (datetime-item c)))
+laws kind.Duration = of-item (widen refl (map-item _ duration-item))
+
 pub lawful : (k : Kind) → LawfulOr (MayStopOf k) bytes (bound k) Anything (ruleOf k)
-lawful kind.Date = widen refl (map-item _ date-item) .lawful
-lawful (kind.Time c) = widen refl (map-item _ (time-item c)) .lawful
-lawful kind.Offset = widen refl (map-item _ offset-item) .lawful
-lawful (kind.Stamp c) = widen refl (map-item _ (datetime-item c)) .lawful
-lawful kind.Duration = widen refl (map-item _ duration-item) .lawful
+lawful k = laws k .lawful
 
--- past the end nothing is found
 pub fails : (k : Kind) → Fails (ruleOf k)
-fails kind.Date = map-item _ date-item .fails
-fails (kind.Time c) = map-item _ (time-item c) .fails
-fails kind.Offset = map-item _ offset-item .fails
-fails (kind.Stamp c) = map-item _ (datetime-item c) .fails
-fails kind.Duration = map-item _ duration-item .fails
-
--- and there it is open
-eager : (k : Kind) → Eager (ruleOf k)
-eager kind.Date = map-item _ date-item .eager
-eager (kind.Time c) = map-item _ (time-item c) .eager
-eager kind.Offset = map-item _ offset-item .eager
-eager (kind.Stamp c) = map-item _ (datetime-item c) .eager
-eager kind.Duration = map-item _ duration-item .eager
+fails k = laws k .fails
 
 -- where no byte more could matter, every longer input reads the same
 pub stable : (k : Kind) → Stable (ruleOf k)
@@ -78,7 +76,7 @@ says k = lawful-begins (lawful k)
 
 -- so the empty text is open
 pub empty-open : (k : Kind) → Judged (bound k) (ruleOf k) [] Open
-empty-open k = says k [] _ true (record { found = refl; more = sym (eager k [] 0 (omega arith)) }) .verdict
+empty-open k = says k [] _ true (record { found = refl; more = sym (laws k .eager [] 0 (omega arith)) }) .verdict
 
 -- ---- where no completion may stop the reading, an open text has one that the whole reader accepts
 

@@ -6,10 +6,11 @@ use mathlib.Core.Option.{some, none}
 use mathlib.Core.Path.{_≡_, refl, sym, ap, _∙_}
 use mathlib.Core.Logic.{inl, inr}
 use native.Mathlib.Omega.{arith}
+use lib.Dec.{ltb}
+use borrow.Author.Tests.{ltb-false}
 use lib.ListN.{length, length-append}
 use Rattle.types.specs.declared.Verdict.{Verdict}
 use Rattle.types.specs.declared.Verdict.the-variants.{Settled, Open}
-use lib.Dec.{ltb}
 use Rattle.parser.specs.Reading.{Found, no, got, stop, Reader, Says, pick}
 use Rattle.parser.specs.Answer.{Told, recorded, refused, begun, ended, Judged, Begins, verdictOf}
 use Rattle.parser.proofs.Stable.{Stable}
@@ -83,3 +84,13 @@ ended-got all (got b m) a n e = go (ltb m all) e
     go : (t : Bool) → pick t (refused 3 m) (recorded b m) ≡ recorded a n → got b m ≡ got a n
     go true e = absurd (recorded-or-refused (sym e))
     go false e = begun-got (got b m) a n e
+
+-- and the whole one's takes all bytes
+pub ended-all : {A : Type 0} (all : ℕ) (f : Found A) (a : A) (n : ℕ) → ended all f ≡ recorded a n → all ≤ n
+ended-all all no a n e = absurd (recorded-or-refused (sym e))
+ended-all all (stop r) a n e = absurd (recorded-or-refused (sym e))
+ended-all all (got b m) a n e = go (ltb m all) refl e
+  where
+    go : (t : Bool) → ltb m all ≡ t → pick t (refused 3 m) (recorded b m) ≡ recorded a n → all ≤ n
+    go true h e = absurd (recorded-or-refused (sym e))
+    go false h e = omega (arith, ltb-false m all h, recorded-once e .1)

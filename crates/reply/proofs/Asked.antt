@@ -52,21 +52,27 @@ names-long l = names-long-in (headOf l) l
 pub names-short : (l : List ℕ) (k : Kind) → questionOf l ≡ Names k → length (textIn l) ≤ 200
 names-short l = names-short-in (headOf l) l
 
--- What is said of the first 204 bytes of a line, or more of them, is said of the line, by whatever head a program takes: no line that long names a
--- kind, and what is said of an unknown one does not depend on its text.
+-- What holds of the first bytes of a line, more than n of them, holds of the line, where lines of more than n bytes are all alike.
+pub clip-alike : (P : List ℕ → Type 0) (n limit : ℕ) → n < limit → ((l m : List ℕ) → n < length l → n < length m → P l → P m) → (l : List ℕ) → P (take limit l) → P l
+clip-alike P n limit h alike l p = step (leb (length l) limit) refl
+  where
+    step : (b : Bool) → leb (length l) limit ≡ b → P l
+    step true e = rw (take-all limit l (leb-true (length l) limit e)) at p
+    step false e =
+        let long : limit < length l = omega (arith, leb-false (length l) limit e) in
+        alike (take limit l) l (rw (length-take-le limit l (omega arith)) h) (omega arith) p
+
+-- So what is said of the first 204 bytes of a line, or more of them, is said of the line, by whatever head a program takes: no line that long names
+-- a kind, and what is said of an unknown one does not depend on its text.
 module _ (H : List ℕ → Head) (few : (l : List ℕ) → H l .from ≤ 3) (P : Letter → List ℕ → Type 0) (unknown : (s u : List ℕ) → P Unknown s → P Unknown u) where
   pub said-clip : (limit : ℕ) (l : List ℕ) → 204 ≤ limit → P (questionIn (H (take limit l)) (take limit l)) (drop (H (take limit l) .from) (take limit l)) → P (questionIn (H l) l) (drop (H l .from) l)
-  said-clip limit l h p = step (leb (length l) limit) refl
+  said-clip limit l h = clip-alike (λ m. P (questionIn (H m) m) (drop (H m .from) m)) 203 limit h alike l
     where
-      long-unknown : (l : List ℕ) → 203 < length l → questionIn (H l) l ≡ Unknown
-      long-unknown l i = past-unknown (H l) l (omega (arith, few l))
+      long-unknown : (m : List ℕ) → 203 < length m → questionIn (H m) m ≡ Unknown
+      long-unknown m i = past-unknown (H m) m (omega (arith, few m))
 
-      step : (b : Bool) → leb (length l) limit ≡ b → P (questionIn (H l) l) (drop (H l .from) l)
-      step true e = rw (take-all limit l (leb-true (length l) limit e)) at p
-      step false e =
-          let long : limit < length l = omega (arith, leb-false (length l) limit e) in
-          let clipped : 203 < length (take limit l) = rw (length-take-le limit l (omega arith)) (omega arith) in
-          rw (long-unknown l (omega arith)) (unknown _ _ (rw (long-unknown (take limit l) clipped) at p))
+      alike : (m u : List ℕ) → 203 < length m → 203 < length u → P (questionIn (H m) m) (drop (H m .from) m) → P (questionIn (H u) u) (drop (H u .from) u)
+      alike m u i j p = rw (long-unknown u j) (unknown _ _ (rw (long-unknown m i) at p))
 
 pub answers-clip : (shown : Bool) (limit : ℕ) (l t : List ℕ) → 204 ≤ limit → Answers shown (take limit l) t → Answers shown l t
 answers-clip shown limit l t = said-clip headOf (λ l. head-size l .1) (λ q s. AnswersTo shown q s t) (λ s u e. e) limit l

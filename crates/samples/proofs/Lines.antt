@@ -3,18 +3,18 @@ use Prim.Native.Nat.{ℕ, _≤_, _<_}
 use mathlib.Core.List.{List}
 use mathlib.Core.Bool.{Bool, true, false}
 use mathlib.Core.Logic.{inl, inr}
-use mathlib.Core.Path.{_≡_, refl}
+use mathlib.Core.Path.{_≡_}
 use native.Mathlib.Omega.{arith}
 use lib.Dec.{leb}
 use lib.ListN.{length, take, length-append}
-use lib.Seq.{take-all, length-take-le}
-use borrow.Author.Tests.{leb-true, leb-false, lt-leb}
+use borrow.Author.Tests.{lt-leb}
 use Rattle.parser.specs.Reading.{pick}
 use Rattle.lines.specs.declared.Ended.{Ended}
 use Rattle.lines.specs.declared.Ended.the-variants.{At, Open}
 use Rattle.lines.specs.Lines.{placeOf}
 use Rattle.lines.proofs.Laws.{place-within}
 use Rattle.reply.specs.Line.{questionOf}
+use Rattle.reply.proofs.Asked.{clip-alike}
 use Rattle.reply.proofs.Short.{answer-short}
 use Rattle.samples.specs.Samples.{questionIn, theirs, Tells, tabOf, ComparedAt, ComparesLine}
 
@@ -32,14 +32,10 @@ long-open l h = rw (lt-leb (length l) 1023 h)
 
 -- a response to the first 1,024 bytes of a line, or more of them, is a response to the line
 pub compares-clip : (limit : ℕ) (l t : List ℕ) → 1024 ≤ limit → ComparesLine (take limit l) t → ComparesLine l t
-compares-clip limit l t h a = step (leb (length l) limit) refl
-  where
-    step : (b : Bool) → leb (length l) limit ≡ b → ComparesLine l t
-    step true e = rw (take-all limit l (leb-true (length l) limit e)) at a
-    step false e =
-        let long : limit < length l = omega (arith, leb-false (length l) limit e) in
-        let clipped : 1023 < length (take limit l) = rw (length-take-le limit l (omega arith)) (omega arith) in
-        record { answer = a .answer; compares = rw (long-open l (omega arith)) (rw (long-open (take limit l) clipped) at (a .compares)); ends = a .ends }
+compares-clip limit l t h =
+    clip-alike (λ m. ComparesLine m t) 1023 limit h
+    (λ m u i j a. record { answer = a .answer; compares = rw (long-open u j) (rw (long-open m i) at (a .compares)); ends = a .ends })
+    l
 
 tells-short : (ours theirs t : List ℕ) → length ours ≤ 400 → Tells ours theirs t → length t ≤ 408
 tells-short ours theirs t h (inl a) = rw (a .1) (omega arith)

@@ -20,7 +20,7 @@ use Rattle.reply.specs.Line.{headOf, questionOf, textIn}
 use Rattle.reply.proofs.Asked.{head-size, said-clip}
 use Rattle.reply.proofs.Short.{digits-short}
 use Rattle.writing.specs.Writing.{Readable}
-use Rattle.writers.specs.Spellings.{kindOf, spelling}
+use Rattle.writers.specs.Spellings.{kindOf}
 use Rattle.writers.proofs.Laws.{kind-read, spelling-short}
 use Rattle.spellings.specs.Said.{refusedWord, said, spelledAs, spelledLine}
 

@@ -12,16 +12,16 @@ use Rattle.breaks.specs.declared.Reason.{Reason}
 use Rattle.breaks.specs.Breaks.{Tells, handed, numbered}
 
 -- 0 ok, 1 early, 2 bad, and the length of the part handed back
-pub record Reasoned (k : Kind) (s : List ℕ) (n r : ℕ) : Type 0 where
+pub record WhyTold (k : Kind) (s : List ℕ) (n r : ℕ) : Type 0 where
   pub reason : Reason
   pub tells : Tells k s reason
   pub number : r ≡ numbered reason
   pub place : n ≡ handed (length s) reason
 
 -- a letter that names no kind: 253, and nothing is written
-abbrev pub ExplainsTo : Letter → List ℕ → ℕ → ℕ → ℕ → Type 0
-ExplainsTo (Names k) s before after r = Reasoned k s after r
-ExplainsTo Unknown s before after r = (r ≡ 253) × (after ≡ before)
+abbrev pub WhyTellsTo : Letter → List ℕ → ℕ → ℕ → ℕ → Type 0
+WhyTellsTo (Names k) s before after r = WhyTold k s after r
+WhyTellsTo Unknown s before after r = (r ≡ 253) × (after ≡ before)
 
-abbrev pub Explains : ℕ → List ℕ → ℕ → ℕ → ℕ → Type 0
-Explains letter s before after r = ExplainsTo (letterOf document01 letter) s before after r
+abbrev pub WhyTells : ℕ → List ℕ → ℕ → ℕ → ℕ → Type 0
+WhyTells letter s before after r = WhyTellsTo (letterOf document01 letter) s before after r

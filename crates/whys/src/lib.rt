@@ -1,6 +1,6 @@
 // What broke a text, for C. A library of its own: what stands on all readers at once would be a second caller of each, and the compiler copies a
 // reader into its caller only where it has one (docs/BENCHMARKS.md). The header is exports' tirozhbar.h.
-ghost use Rattle.whys.specs.Promise.{Explains};
+ghost use Rattle.whys.specs.Promise.{WhyTells};
 use kinds::answer::Letter;
 use types::Choices;
 
@@ -10,7 +10,7 @@ const NO_SUCH_KIND: u32 = 253;
 // Says what broke a text of the kind that a letter names, under document 01's choices, and how long the part is that is handed back.
 #[no_mangle]
 pub extern "C" fn tirozhbar_why(kind: u8, s: &[u8], place: &mut u64) -> u32
-    ensures { λ r. ⌜ Explains kind (now (s .entry)) (now (place .entry)) (now (place .exit)) r ⌝ }
+    ensures { λ r. ⌜ WhyTells kind (now (s .entry)) (now (place .entry)) (now (place .exit)) r ⌝ }
 {
     let named = kinds::kind_of(kind, Choices::DOCUMENT_01);
     match named {

@@ -1,6 +1,5 @@
 -- By the tests on the byte.
 use borrow.Author.Tests.{le-leb, lt-leb}
-use borrow.Author.Needs.{needs}
 use Rattle.faults.proofs.shown_as.Statement.{statement}
 use Rattle.faults.proofs.shown_as.Tie as tie
 

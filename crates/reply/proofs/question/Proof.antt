@@ -1,5 +1,4 @@
 -- The question behind the line's own head.
-use mathlib.Core.Path.{_∙_}
 use borrow.Author.Needs.{needs}
 use Rattle.reply.proofs.Asked.{head-size}
 use Rattle.reply.proofs.question.Statement.{statement}

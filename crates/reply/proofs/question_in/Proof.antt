@@ -1,5 +1,4 @@
 -- Each return by the tests on the line that led there.
-use native.Mathlib.Omega.{arith}
 use borrow.Author.Tests.{le-leb, lt-leb, eq-eqb, ne-eqb}
 use borrow.Author.Needs.{needs}
 use Rattle.reply.specs.Line.{questionIn}
