@@ -113,7 +113,7 @@ static int64_t slots[ROOM];
 static int read_once(reader *read, const char *text) {
     uint32_t number = read((const uint8_t *)text, strlen(text), slots, ROOM);
     printf("%u:", number);
-    for (int i = 0; i < 13; i++) printf(" %lld", (long long)slots[i]);
+    for (int i = 0; i < 14; i++) printf(" %lld", (long long)slots[i]);
     puts("");
     return 0;
 }

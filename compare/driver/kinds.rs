@@ -10,7 +10,7 @@ use winnow_datetime::{date, datetime, duration, offset, time};
 /// What the original does with a text.
 pub enum Outcome {
     Panicked,
-    /// `B COUNT W WCOUNT RECORD`: what `answers` prints, without its verdict.
+    /// `B COUNT W WCOUNT RECORD`: what `answers` prints, without its verdict and a time's digits.
     Answered(String),
 }
 

@@ -62,7 +62,7 @@ fn skipped(kind: &Kind, text: &[u8]) -> bool {
 }
 
 fn against(program: &str, arguments: &[&str]) -> Result<u8> {
-    println!("compared: number and count of both readers, and the record");
+    println!("compared: number and count of both readers, and the record but for a time's digits");
     println!("panicked: outside the domain; `too big` are those of them to which ours answers 2");
     println!("skipped:  durations with a comma or a point");
     println!("            compared    differ  panicked   too big   skipped");
@@ -139,7 +139,7 @@ impl Tally {
             self.skipped += 1;
             return;
         }
-        let answer = without_verdict(ours);
+        let answer = without_ours(ours);
         match (kind.read)(text) {
             Outcome::Panicked => {
                 self.panicked += 1;
@@ -183,10 +183,21 @@ impl Tally {
     }
 }
 
-/// `B COUNT VERDICT W WCOUNT RECORD` without its third word; nothing if that isn't a verdict.
-fn without_verdict(answer: &str) -> Option<String> {
+/// `B COUNT VERDICT W WCOUNT RECORD` without what the original doesn't have: the verdict, and the
+/// last word of a time, the digits of its fraction. Nothing if these aren't what they should be.
+fn without_ours(answer: &str) -> Option<String> {
     match answer.splitn(4, ' ').collect::<Vec<_>>()[..] {
-        [number, count, "settled" | "open", rest] => Some(format!("{number} {count} {rest}")),
+        [number, count, "settled" | "open", rest] => {
+            Some(format!("{number} {count} {}", without_digits(rest)?))
+        }
         _ => None,
     }
+}
+
+fn without_digits(rest: &str) -> Option<&str> {
+    if !rest.contains(" time ") {
+        return Some(rest);
+    }
+    let (others, digits) = rest.rsplit_once(' ')?;
+    matches!(digits.as_bytes(), [b'0'..=b'9']).then_some(others)
 }

@@ -85,7 +85,8 @@ enum { TIROZHBAR_COUNT = 0, TIROZHBAR_VERDICT = 1 };
 /* An offset from UTC. Hours and minutes carry the same sign, or are zero: -00:30 is 0 and -30. */
 enum { TIROZHBAR_OFFSET_HOURS = 2, TIROZHBAR_OFFSET_MINUTES = 3, TIROZHBAR_OFFSET_SLOTS = 4 };
 
-/* A time. Without an offset the last three slots are 0; with one, GIVEN is 1. */
+/* A time. Without an offset the three slots of one are 0; with one, GIVEN is 1. DIGITS is the number of digits that its fraction was written
+ * with, 9 where they were more: 0 without one. */
 enum {
     TIROZHBAR_TIME_HOUR = 2,
     TIROZHBAR_TIME_MINUTE = 3,
@@ -94,7 +95,8 @@ enum {
     TIROZHBAR_TIME_OFFSET_GIVEN = 6,
     TIROZHBAR_TIME_OFFSET_HOURS = 7,
     TIROZHBAR_TIME_OFFSET_MINUTES = 8,
-    TIROZHBAR_TIME_SLOTS = 9
+    TIROZHBAR_TIME_DIGITS = 9,
+    TIROZHBAR_TIME_SLOTS = 10
 };
 
 /* A date: FORM says which of the three it is. PART is the month of a calendar date, the week of a week date, and 0 of an ordinal
@@ -121,7 +123,8 @@ enum {
     TIROZHBAR_DATETIME_OFFSET_GIVEN = 10,
     TIROZHBAR_DATETIME_OFFSET_HOURS = 11,
     TIROZHBAR_DATETIME_OFFSET_MINUTES = 12,
-    TIROZHBAR_DATETIME_SLOTS = 13
+    TIROZHBAR_DATETIME_DIGITS = 13,
+    TIROZHBAR_DATETIME_SLOTS = 14
 };
 
 /* A duration. An absent part is 0. */
@@ -141,9 +144,9 @@ uint32_t tirozhbar_offset(const uint8_t *text, size_t length, int64_t *slots, si
 /* A text that is one offset from its first byte to its last. 4 slots. */
 uint32_t tirozhbar_parse_offset(const uint8_t *text, size_t length, int64_t *slots, size_t room);
 
-/* The time that the text begins with: T21:56:42.123+01:00, or less of it. 9 slots. */
+/* The time that the text begins with: T21:56:42.123+01:00, or less of it. 10 slots. */
 uint32_t tirozhbar_time(const uint8_t *text, size_t length, int64_t *slots, size_t room, uint32_t choices);
-/* A text that is one time from its first byte to its last. 9 slots. */
+/* A text that is one time from its first byte to its last. 10 slots. */
 uint32_t tirozhbar_parse_time(const uint8_t *text, size_t length, int64_t *slots, size_t room, uint32_t choices);
 
 /* The date that the text begins with: 2015-11-02, 20151102, 2015-W45-1, 2015-306. 6 slots. */
@@ -151,9 +154,9 @@ uint32_t tirozhbar_date(const uint8_t *text, size_t length, int64_t *slots, size
 /* A text that is one date from its first byte to its last. 6 slots. */
 uint32_t tirozhbar_parse_date(const uint8_t *text, size_t length, int64_t *slots, size_t room);
 
-/* The date-time that the text begins with: a date, T, a time. 13 slots. */
+/* The date-time that the text begins with: a date, T, a time. 14 slots. */
 uint32_t tirozhbar_datetime(const uint8_t *text, size_t length, int64_t *slots, size_t room, uint32_t choices);
-/* A text that is one date-time from its first byte to its last. 13 slots. */
+/* A text that is one date-time from its first byte to its last. 14 slots. */
 uint32_t tirozhbar_parse_datetime(const uint8_t *text, size_t length, int64_t *slots, size_t room, uint32_t choices);
 
 /* The duration that the text begins with: P1Y2M3DT4H5M6S, P5W. 9 slots. */
@@ -172,11 +175,12 @@ enum {
 
 /* Z, or a sign and HH:MM. 4 slots. */
 uint32_t tirozhbar_write_offset(int64_t *slots, size_t room, uint8_t *text, size_t length);
-/* HH:MM:SS, a point and the fraction without trailing zeros if it is not 0, then nothing or the offset. 9 slots. */
+/* HH:MM:SS, a point and the first DIGITS of the nine digits of NANOSECOND if DIGITS is not 0, then nothing or the offset. The other digits of
+ * the nine have to be 0, or no reader leaves such slots. 10 slots. */
 uint32_t tirozhbar_write_time(int64_t *slots, size_t room, uint8_t *text, size_t length, uint32_t choices);
 /* YYYY-MM-DD, YYYY-Www-D or YYYY-DDD by the form, with - in front of a negative year. 6 slots. */
 uint32_t tirozhbar_write_date(int64_t *slots, size_t room, uint8_t *text, size_t length);
-/* The date, T and the time. 13 slots. */
+/* The date, T and the time. 14 slots. */
 uint32_t tirozhbar_write_datetime(int64_t *slots, size_t room, uint8_t *text, size_t length, uint32_t choices);
 /* The parts that are not 0, with T before time parts; PT0S where all are 0. 9 slots. */
 uint32_t tirozhbar_write_duration(int64_t *slots, size_t room, uint8_t *text, size_t length);

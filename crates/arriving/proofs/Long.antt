@@ -7,7 +7,7 @@ use native.Mathlib.Omega.{arith}
 use borrow.Author.Tests.{lt-leb}
 use Rattle.parser.specs.Reading.{got, lit, seq, opt, verify, map, give}
 use Rattle.parser.specs.Answer.{recorded, begun}
-use Rattle.parser.specs.Digits.{isDigit, digits, numberFrom, runUpTo}
+use Rattle.parser.specs.Digits.{isDigit, digits, numberFrom, runAs}
 use Rattle.duration.specs.Rules.{part, durationBaseTime, durationTime, partsRule, duration}
 use Rattle.kinds.specs.declared.answer.Kind.the-variants as kind
 use Rattle.kinds.specs.declared.answer.Record.{Record}
@@ -31,7 +31,7 @@ abbrev pub oneYear : Record
 oneYear = record-of.Duration (record { years = 1; months = 0; weeks = 0; days = 0; hours = 0; minutes = 0; seconds = 0 })
 
 one-year : ruleOf kind.Duration .reads (80 ∷ 49 ∷ 89 ∷ []) 0 ≡ got oneYear 3
-unfolding lit seq opt verify map give digits numberFrom runUpTo part durationBaseTime durationTime partsRule duration
+unfolding lit seq opt verify map give digits numberFrom runAs part durationBaseTime durationTime partsRule duration
 one-year = refl
 
 -- one zero more stands before a digit, and moves the place behind it

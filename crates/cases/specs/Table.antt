@@ -31,8 +31,8 @@ begins k s t v = record { kind = k; bytes = s; told = t; verdict = v; whole = no
 abbrev pub seconds : ℕ → Duration
 seconds n = record { years = 0; months = 0; weeks = 0; days = 0; hours = 0; minutes = 0; seconds = n }
 
-abbrev pub clock : ℕ → ℕ → ℕ → ℕ → Time
-clock h m s n = record { hour = h; minute = m; second = s; nanosecond = n; offset = Absent }
+abbrev pub clock : ℕ → ℕ → ℕ → ℕ → ℕ → Time
+clock h m s n d = record { hour = h; minute = m; second = s; nanosecond = n; digits = d; offset = Absent }
 
 unfoldable pub table : List Row
 table =
@@ -59,11 +59,11 @@ table =
     -- 2015114
     begins kind.Date (50 ∷ 48 ∷ 49 ∷ 53 ∷ 49 ∷ 49 ∷ 52 ∷ []) (recorded (record-of.Date (Ordinal (pos 2015) 114)) 7) Settled ∷
     -- 21:56:42.1234567891
-    begins (kind.Time document01) (50 ∷ 49 ∷ 58 ∷ 53 ∷ 54 ∷ 58 ∷ 52 ∷ 50 ∷ 46 ∷ 49 ∷ 50 ∷ 51 ∷ 52 ∷ 53 ∷ 54 ∷ 55 ∷ 56 ∷ 57 ∷ 49 ∷ []) (recorded (record-of.Time (clock 21 56 42 123456789)) 19) Open ∷
+    begins (kind.Time document01) (50 ∷ 49 ∷ 58 ∷ 53 ∷ 54 ∷ 58 ∷ 52 ∷ 50 ∷ 46 ∷ 49 ∷ 50 ∷ 51 ∷ 52 ∷ 53 ∷ 54 ∷ 55 ∷ 56 ∷ 57 ∷ 49 ∷ []) (recorded (record-of.Time (clock 21 56 42 123456789 9)) 19) Open ∷
     -- 24:00
     begins (kind.Time document01) (50 ∷ 52 ∷ 58 ∷ 48 ∷ 48 ∷ []) (refused 1 0) Settled ∷
     -- 2015-11-02T21:56:4
-    begins (kind.Stamp document01) (50 ∷ 48 ∷ 49 ∷ 53 ∷ 45 ∷ 49 ∷ 49 ∷ 45 ∷ 48 ∷ 50 ∷ 84 ∷ 50 ∷ 49 ∷ 58 ∷ 53 ∷ 54 ∷ 58 ∷ 52 ∷ []) (recorded (record-of.Stamp (record { date = YMD (pos 2015) 11 2; time = clock 21 56 0 0 })) 16) Open ∷
+    begins (kind.Stamp document01) (50 ∷ 48 ∷ 49 ∷ 53 ∷ 45 ∷ 49 ∷ 49 ∷ 45 ∷ 48 ∷ 50 ∷ 84 ∷ 50 ∷ 49 ∷ 58 ∷ 53 ∷ 54 ∷ 58 ∷ 52 ∷ []) (recorded (record-of.Stamp (record { date = YMD (pos 2015) 11 2; time = clock 21 56 0 0 0 })) 16) Open ∷
     -- P4294967295S
     begins kind.Duration (80 ∷ 52 ∷ 50 ∷ 57 ∷ 52 ∷ 57 ∷ 54 ∷ 55 ∷ 50 ∷ 57 ∷ 53 ∷ 83 ∷ []) (recorded (record-of.Duration (seconds 4294967295)) 12) Settled ∷
     -- P4294967296S

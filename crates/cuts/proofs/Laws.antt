@@ -46,8 +46,8 @@ begun-short t v = simp length-append (omega (arith, digits-short 20 (t .number),
 
 end-short : (whole last : Told Record) → length (endText whole last) ≤ 300
 end-short whole last =
-    let words = recordOrDash (last .value) in
-    simp length-append (omega (arith, digits-short 20 (whole .number), digits-short 20 (whole .count), text-short words, record-few (last .value)))
+    let words = recordOrDash true (last .value) in
+    simp length-append (omega (arith, digits-short 20 (whole .number), digits-short 20 (whole .count), text-short words, record-few true (last .value)))
 
 said-short : (k : Kind) (ps : List (List ℕ)) (all t : List ℕ) → SaysOf k all ps t → length t ≤ 52 * length ps + 300
 said-short k [] all t e = rw e (end-short (ended (length all) (ruleOf k .reads all 0)) (begun (ruleOf k .reads all 0)))

@@ -1,5 +1,6 @@
 -- What `pieces` prints for a line.
 use Prim.Native.Nat.{ℕ}
+use mathlib.Core.Bool.{true}
 use mathlib.Core.List.{List, [], _∷_, _++_}
 use mathlib.Core.Path.{_≡_}
 use lib.ListN.{length}
@@ -32,7 +33,7 @@ begunText t v = decimal (t .number) ++ (textOf (Number (t .count) ∷ verdictWor
 
 -- "then what `end` says, `W WCOUNT`, and RECORD as `answers` prints it for the beginning reader's last answer"
 abbrev pub endText : Told Record → Told Record → List ℕ
-endText whole last = decimal (whole .number) ++ (textOf (Number (whole .count) ∷ []) ++ textOf (recordOrDash (last .value)))
+endText whole last = decimal (whole .number) ++ (textOf (Number (whole .count) ∷ []) ++ textOf (recordOrDash true (last .value)))
 
 abbrev pub endOf : Kind → List ℕ → List ℕ
 endOf k all = endText (ended (length all) (ruleOf k .reads all 0)) (begun (ruleOf k .reads all 0))

@@ -51,7 +51,7 @@ fn put_end(out: &mut [u8], at: usize, state: State) -> usize
     let last = arriving::answer(state).answer;
     let next = put_decimal(out, at, whole.number());
     let next = put_word(out, next, Word::Number(whole.count() as u64));
-    reply::put_told(out, next, last)
+    reply::put_told(out, next, last, true)
 }
 
 // Gives a state piece after piece, one more than there are bytes `|`, so also an empty one behind the last byte. A line's text is so short that

@@ -25,4 +25,4 @@ stampOf (time.Got t n m) date.Other = Other
 stampOf time.Other d = Other
 
 abbrev pub plainStamp : List ℕ → PlainStamp
-plainStamp s = stampOf (firstPlain (plainTime s 23 (plainClock s 11) (plainMillisecond s 19)) (plainTime s 19 (plainClock s 11) 0)) (dateOfStamp s)
+plainStamp s = stampOf (firstPlain (plainTime s 23 (plainClock s 11) (plainMillisecond s 19) 3) (plainTime s 19 (plainClock s 11) 0 0)) (dateOfStamp s)

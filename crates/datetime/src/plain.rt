@@ -60,8 +60,8 @@ fn plain_stamp(s: &[u8]) -> PlainStamp
 {
     let date = date_of_stamp(s);
     let clock = looks::plain_clock(s, 11);
-    let exact = time::plain::plain_time(s, 23, clock, looks::plain_millisecond(s, 19));
-    let plain = time::plain::first_plain(exact, time::plain::plain_time(s, 19, clock, 0));
+    let exact = time::plain::plain_time(s, 23, clock, looks::plain_millisecond(s, 19), 3);
+    let plain = time::plain::first_plain(exact, time::plain::plain_time(s, 19, clock, 0, 0));
     stamp_of(plain, date)
 }
 

@@ -9,7 +9,7 @@ use lib.ListN.{length, getD, set, take, drop, length-append, length-drop, drop-o
 use lib.Seq.{take-all, drop-cons, drop-drop, take-at, drop-at, set-append-seam}
 use Rattle.types.specs.declared.Choices.{Choices}
 use Rattle.types.specs.declared.DateTime.{DateTime}
-use Rattle.parser.specs.Reading.{lit, and}
+use Rattle.parser.specs.Reading.{lit}
 use Rattle.parser.proofs.Fields.{and-first, and-second}
 use Rattle.datetime.specs.Rules.{stamp, timeOf, afterDate, dateTime}
 use Rattle.writing.specs.Spelling.{dateSpelling, timeSpelling, dateTimeSpelling}

@@ -7,7 +7,7 @@ use lib.ListN.{length}
 use Rattle.types.specs.declared.DateTime.{DateTime}
 use Rattle.types.specs.declared.Date.the-variants.{YMD}
 use Rattle.types.specs.declared.TimeOffset.the-variants.{Given}
-use Rattle.writing.specs.Spelling.{padded, withoutTrailingZeros, shiftSpelling, offsetSpelling, clockSpelling, fractionSpelling, timeOffsetSpelling, timeSpelling, yearSpelling, dateSpelling, dateTimeSpelling}
+use Rattle.writing.specs.Spelling.{padded, shiftSpelling, offsetSpelling, clockSpelling, fractionSpelling, timeOffsetSpelling, timeSpelling, yearSpelling, dateSpelling, dateTimeSpelling}
 use Rattle.date_writer.proofs.Lengths.{date-short}
 use Rattle.time_writer.proofs.Lengths.{time-short}
 use Rattle.datetime_writer.proofs.Laws.{size-is}
@@ -19,9 +19,9 @@ longest-stamp x = omega (arith, size-is x, date-short (x .date), time-short (x .
 pub last-stamp : DateTime
 last-stamp = record {
   date = YMD (negsuc 9998) 12 31;
-  time = record { hour = 23; minute = 59; second = 60; nanosecond = 123456789; offset = Given (record { hours = negsuc 22; minutes = negsuc 58 }) };
+  time = record { hour = 23; minute = 59; second = 60; nanosecond = 123456789; digits = 9; offset = Given (record { hours = negsuc 22; minutes = negsuc 58 }) };
 }
 
 pub longest-reached : length (dateTimeSpelling last-stamp) ≡ 36
-unfolding last-stamp dateTimeSpelling dateSpelling yearSpelling timeSpelling clockSpelling fractionSpelling withoutTrailingZeros timeOffsetSpelling offsetSpelling shiftSpelling padded
+unfolding last-stamp dateTimeSpelling dateSpelling yearSpelling timeSpelling clockSpelling fractionSpelling timeOffsetSpelling offsetSpelling shiftSpelling padded
 longest-reached = refl

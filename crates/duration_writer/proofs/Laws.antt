@@ -10,7 +10,7 @@ use lib.ListN.{length}
 use Rattle.types.specs.declared.Duration.{Duration}
 use Rattle.types.specs.Sums.{isZero}
 use Rattle.parser.specs.Reading.{Reader, got, lit, seq, opt, verify, map, give, and, or, pick}
-use Rattle.parser.specs.Digits.{digits, numberFrom, runUpTo}
+use Rattle.parser.specs.Digits.{digits, numberFrom, runAs}
 use Rattle.parser.proofs.Fields.{and-first, and-second}
 use Rattle.duration.specs.declared.DurationTimeParts.{DurationTimeParts}
 use Rattle.duration.specs.Rules.{part, present, TimeParts, someTime, timeOf, durationBaseTime, durationTime, Parts, partsRule, somePart, timeOrZero, durationOf, duration}
@@ -126,7 +126,7 @@ some-reads d w e =
 
 zero-reads : (y mo w d h m s : ℕ) → isZero (record { years = y; months = mo; weeks = w; days = d; hours = h; minutes = m; seconds = s }) ≡ true
     → duration .reads (80 ∷ 84 ∷ 48 ∷ 83 ∷ []) 0 ≡ got (record { years = y; months = mo; weeks = w; days = d; hours = h; minutes = m; seconds = s }) 4
-unfolding isZero duration partsRule durationTime durationBaseTime part runUpTo digits numberFrom lit seq opt verify map give
+unfolding isZero duration partsRule durationTime durationBaseTime part runAs digits numberFrom lit seq opt verify map give
 zero-reads y mo w d h m s e =
     let f = and-second (eqb y 0) e in
     let g = and-second (eqb mo 0) f in

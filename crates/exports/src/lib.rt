@@ -34,7 +34,7 @@ pub extern "C" fn tirozhbar_parse_offset(s: &[u8], slots: &mut [i64]) -> u32
 // Reads the time that the bytes begin with.
 #[no_mangle]
 pub extern "C" fn tirozhbar_time(s: &[u8], slots: &mut [i64], choices: u32) -> u32
-    ensures { λ r. ⌜ BeginsUnder 9 3 time timeSlots choices (now (s .entry)) (now (slots .entry)) (now (slots .exit)) r ⌝ }
+    ensures { λ r. ⌜ BeginsUnder 10 3 time timeSlots choices (now (s .entry)) (now (slots .entry)) (now (slots .exit)) r ⌝ }
 {
     let chosen = slots::choices_of(choices);
     match chosen {
@@ -46,7 +46,7 @@ pub extern "C" fn tirozhbar_time(s: &[u8], slots: &mut [i64], choices: u32) -> u
 // Reads bytes that are one time from the first to the last.
 #[no_mangle]
 pub extern "C" fn tirozhbar_parse_time(s: &[u8], slots: &mut [i64], choices: u32) -> u32
-    ensures { λ r. ⌜ EndsUnder 9 time timeSlots choices (now (s .entry)) (now (slots .entry)) (now (slots .exit)) r ⌝ }
+    ensures { λ r. ⌜ EndsUnder 10 time timeSlots choices (now (s .entry)) (now (slots .entry)) (now (slots .exit)) r ⌝ }
 {
     let chosen = slots::choices_of(choices);
     match chosen {
@@ -74,7 +74,7 @@ pub extern "C" fn tirozhbar_parse_date(s: &[u8], slots: &mut [i64]) -> u32
 // Reads the date-time that the bytes begin with.
 #[no_mangle]
 pub extern "C" fn tirozhbar_datetime(s: &[u8], slots: &mut [i64], choices: u32) -> u32
-    ensures { λ r. ⌜ BeginsUnder 13 10 dateTime dateTimeSlots choices (now (s .entry)) (now (slots .entry)) (now (slots .exit)) r ⌝ }
+    ensures { λ r. ⌜ BeginsUnder 14 10 dateTime dateTimeSlots choices (now (s .entry)) (now (slots .entry)) (now (slots .exit)) r ⌝ }
 {
     let chosen = slots::choices_of(choices);
     match chosen {
@@ -86,7 +86,7 @@ pub extern "C" fn tirozhbar_datetime(s: &[u8], slots: &mut [i64], choices: u32) 
 // Reads bytes that are one date-time from the first to the last.
 #[no_mangle]
 pub extern "C" fn tirozhbar_parse_datetime(s: &[u8], slots: &mut [i64], choices: u32) -> u32
-    ensures { λ r. ⌜ EndsUnder 13 dateTime dateTimeSlots choices (now (s .entry)) (now (slots .entry)) (now (slots .exit)) r ⌝ }
+    ensures { λ r. ⌜ EndsUnder 14 dateTime dateTimeSlots choices (now (s .entry)) (now (slots .entry)) (now (slots .exit)) r ⌝ }
 {
     let chosen = slots::choices_of(choices);
     match chosen {
@@ -122,7 +122,7 @@ pub extern "C" fn tirozhbar_write_offset(slots: &mut [i64], text: &mut [u8]) -> 
 // Writes the time that the slots hold.
 #[no_mangle]
 pub extern "C" fn tirozhbar_write_time(slots: &mut [i64], text: &mut [u8], choices: u32) -> u32
-    ensures { λ r. ⌜ WritesUnder 9 time timeSlots timeSpelling choices (now (slots .entry)) (now (slots .exit)) (now (text .entry)) (now (text .exit)) r ⌝ }
+    ensures { λ r. ⌜ WritesUnder 10 time timeSlots timeSpelling choices (now (slots .entry)) (now (slots .exit)) (now (text .entry)) (now (text .exit)) r ⌝ }
 {
     let chosen = slots::choices_of(choices);
     match chosen {
@@ -142,7 +142,7 @@ pub extern "C" fn tirozhbar_write_date(slots: &mut [i64], text: &mut [u8]) -> u3
 // Writes the date-time that the slots hold.
 #[no_mangle]
 pub extern "C" fn tirozhbar_write_datetime(slots: &mut [i64], text: &mut [u8], choices: u32) -> u32
-    ensures { λ r. ⌜ WritesUnder 13 dateTime dateTimeSlots dateTimeSpelling choices (now (slots .entry)) (now (slots .exit)) (now (text .entry)) (now (text .exit)) r ⌝ }
+    ensures { λ r. ⌜ WritesUnder 14 dateTime dateTimeSlots dateTimeSpelling choices (now (slots .entry)) (now (slots .exit)) (now (text .entry)) (now (text .exit)) r ⌝ }
 {
     let chosen = slots::choices_of(choices);
     match chosen {

@@ -21,6 +21,7 @@ use Rattle.slots.specs.Slots.{offsetSlots, timeOffsetSlots, timeSlots, dateSlot
 use Rattle.slots.proofs.Stores.{_then_}
 use Rattle.offset_writer.specs.Ranges.{offsetGiven}
 use Rattle.time_writer.specs.Ranges.{timeOffsetGiven, timeGiven}
+use Rattle.time_writer.proofs.Nine.{digits-few}
 use Rattle.time_writer.proofs.Laws.{time-within, last-small, within-day}
 use Rattle.date_writer.specs.Ranges.{yearGiven, dateGiven}
 use Rattle.datetime_writer.specs.Ranges.{dateTimeGiven}
@@ -117,23 +118,38 @@ record TimeSmall (t : Time) : Type 0 where
   minute : t .minute ≤ 999999999
   second : t .second ≤ 999999999
   nanosecond : t .nanosecond ≤ 999999999
+  digits : t .digits ≤ 999999999
   offset : timeOffsetGiven (t .offset) ≡ true
 
 time-small : (c : Choices) (t : Time) → timeGiven c t ≡ true → TimeSmall t
 time-small c t e =
     let w = time-within c t e in
     let day = within-day _ (w .behind) in
-    record { hour = omega (arith, last-small (c .edition)); minute = omega arith; second = omega arith; nanosecond = omega arith; offset = w .offset }
+    record {
+      hour = omega (arith, last-small (c .edition));
+      minute = omega arith;
+      second = omega arith;
+      nanosecond = omega (arith, day .fraction .nanosecond);
+      digits = omega (arith, digits-few (day .fraction));
+      offset = w .offset;
+    }
 
-pub time-made : (c : Choices) {hour minute second nanosecond : ℤ} {l : List ℤ} {h m s n : ℕ} {o : TimeOffset} → Natural hour h → Natural minute m → Natural second s → Natural nanosecond n → Made timeOffsetGiven timeOffsetSlots l o
-    → Made (timeGiven c) timeSlots (hour ∷ minute ∷ second ∷ nanosecond ∷ l) (record { hour = h; minute = m; second = s; nanosecond = n; offset = o })
-time-made c h m s n o = record {
+-- the offset's three slots and the one behind them
+split : (o : TimeOffset) {given hours minutes digits z : ℤ} → timeOffsetSlots o ++ z ∷ [] ≡ given ∷ hours ∷ minutes ∷ digits ∷ [] → (timeOffsetSlots o ≡ given ∷ hours ∷ minutes ∷ []) × (z ≡ digits)
+split Absent e = (cc, cc)
+split (Given o) e = (cc, cc)
+
+pub time-made : (c : Choices) {hour minute second nanosecond given hours minutes digits : ℤ} {h m s n d : ℕ} {o : TimeOffset} → Natural hour h → Natural minute m → Natural second s → Natural nanosecond n → Natural digits d
+    → Made timeOffsetGiven timeOffsetSlots (given ∷ hours ∷ minutes ∷ []) o
+    → Made (timeGiven c) timeSlots (hour ∷ minute ∷ second ∷ nanosecond ∷ given ∷ hours ∷ minutes ∷ digits ∷ []) (record { hour = h; minute = m; second = s; nanosecond = n; digits = d; offset = o })
+time-made c {given = given} {hours = hours} {minutes = minutes} {digits = digits} h m s n d o = record {
   found = λ t g e.
       let w = time-small c t g in
-      rw (natural-found h (t .hour) (w .hour) (cc), natural-found m (t .minute) (w .minute) (cc), natural-found s (t .second) (w .second) (cc), natural-found n (t .nanosecond) (w .nanosecond) (cc), o .found (t .offset) (w .offset) (cc));
+      let last = split (t .offset) {given = given} {hours = hours} {minutes = minutes} {digits = digits} {z = pos (t .digits)} (cc) in
+      rw (natural-found h (t .hour) (w .hour) (cc), natural-found m (t .minute) (w .minute) (cc), natural-found s (t .second) (w .second) (cc), natural-found n (t .nanosecond) (w .nanosecond) (cc), natural-found d (t .digits) (w .digits) (last .1), o .found (t .offset) (w .offset) (last .0));
   held = λ g.
       let w = time-small c _ g in
-      natural-held h (w .hour) then natural-held m (w .minute) then natural-held s (w .second) then natural-held n (w .nanosecond) then o .held (w .offset);
+      natural-held h (w .hour) then natural-held m (w .minute) then natural-held s (w .second) then natural-held n (w .nanosecond) then rw (o .held (w .offset)) (refl then refl then refl then natural-held d (w .digits) then refl);
 }
 
 -- ---- dates

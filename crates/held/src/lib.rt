@@ -84,14 +84,16 @@ pub fn time_of(
     given: i64,
     hours: i64,
     minutes: i64,
+    digits: i64,
 ) -> Time
-    ensures { λ r. ⌜ ((c : Choices) → Made (timeGiven c) timeSlots (hour ∷ minute ∷ second ∷ nanosecond ∷ given ∷ hours ∷ minutes ∷ []) r) ⌝ }
+    ensures { λ r. ⌜ ((c : Choices) → Made (timeGiven c) timeSlots (hour ∷ minute ∷ second ∷ nanosecond ∷ given ∷ hours ∷ minutes ∷ digits ∷ []) r) ⌝ }
 {
     Time {
         hour: natural(hour),
         minute: natural(minute),
         second: natural(second),
         nanosecond: natural(nanosecond),
+        digits: natural(digits),
         offset: time_offset_of(given, hours, minutes),
     }
 }

@@ -2,17 +2,22 @@
 use Prim.Native.Nat.{ℕ, _+_, _*_, _<_, _≤_}
 use mathlib.Core.List.{List, [], _∷_}
 use mathlib.Core.Bool.{Bool, true, false}
-use mathlib.Core.Path.{_≡_, refl, sym, ap, ap₂, _∙_}
+use mathlib.Core.Path.{_≡_, sym, ap, _∙_}
 use native.Mathlib.Omega.{arith}
 use lib.ListN.{length, getD}
 use lib.Dec.{eqb}
 use borrow.Author.Tests.{lt-ltb, ltb-true}
+use Rattle.types.specs.declared.Fraction.{Fraction}
 use Rattle.parser.specs.Reading.{got, Says}
 use Rattle.parser.specs.Digits.{fraction, runAt, numberFrom, atTheEnd}
 use Rattle.parser.proofs.Fields.{DigitAt, OtherAt}
 use Rattle.parser.proofs.Runs.{run-step, run-other, run-end, end-is, end-is-not}
 use Rattle.looks.specs.Digits.{twoDigits}
 use Rattle.looks.proofs.Two.{two-is, two-some}
+
+-- so many milliseconds, in three digits
+abbrev pub milliseconds : ℕ → Fraction
+milliseconds ms = record { nanosecond = ms * 1000000; digits = 3 }
 
 module _ (s : List ℕ) (at : ℕ) where
   abbrev pub tenths : ℕ
@@ -33,7 +38,7 @@ module _ (s : List ℕ) (at : ℕ) where
         let q : at + 2 + 1 ≡ at + 3 = omega arith in
         run-step s at d0 ∙ ap (_∷_ (getD s at 0)) (run-step s (at + 1) d1 ∙ ap (_∷_ (getD s (at + 1) 0)) (rw p (run-step s (at + 2) d2 ∙ ap (_∷_ (getD s (at + 2) 0)) (rw q z))))
 
-    says : (m : Bool) → runAt s (at + 3) ≡ [] → atTheEnd s at ≡ m → Says fraction s at (got ((tenths * 100 + rest) * 1000000) (at + 3)) m
+    says : (m : Bool) → runAt s (at + 3) ≡ [] → atTheEnd s at ≡ m → Says fraction s at (got (milliseconds (tenths * 100 + rest)) (at + 3)) m
     unfolding fraction numberFrom
     says m z em =
         let t = two-is 48 (getD s at 0) 0 9 e in
@@ -41,11 +46,11 @@ module _ (s : List ℕ) (at : ℕ) where
         let r = run-of-three z in
         let a = two-some 48 (getD s at 0) 0 9 t in
         let b = two-some (getD s (at + 1) 0) (getD s (at + 2) 0) 0 99 u in
-        record { found = rw (r, a, b) (ap₂ got (omega arith) refl); more = sym em }
+        record { found = rw (r, a, b) (ap (λ (n : ℕ). got (record { nanosecond = n; digits = 3 }) (at + 3)) (omega arith)); more = sym em }
 
     -- where the input ends, and where another byte stands
-    pub three-end : length s ≤ at + 3 → Says fraction s at (got ((tenths * 100 + rest) * 1000000) (at + 3)) true
+    pub three-end : length s ≤ at + 3 → Says fraction s at (got (milliseconds (tenths * 100 + rest)) (at + 3)) true
     three-end h = let z = run-end s (at + 3) h in says true z (end-is s at (at + 3) (rw (run-of-three z)) h)
 
-    pub three-other : OtherAt s (at + 3) → Says fraction s at (got ((tenths * 100 + rest) * 1000000) (at + 3)) false
+    pub three-other : OtherAt s (at + 3) → Says fraction s at (got (milliseconds (tenths * 100 + rest)) (at + 3)) false
     three-other o = let z = run-other s (at + 3) o in says false z (end-is-not s at (at + 3) (rw (run-of-three z)) (ltb-true (at + 3) (length s) (o .inside)))

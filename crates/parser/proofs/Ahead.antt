@@ -7,7 +7,7 @@ use native.Mathlib.Omega.{arith}
 use lib.ListN.{length, getD}
 use lib.Dec.{ltb, leb, eqb}
 use Rattle.parser.specs.Reading.{Found, no, got, stop, Reader, lit, seq, then, opt, lack, alt, orElse, verify, keep, must, keepOrStop, map, mapFound, give, pick, and, within}
-use Rattle.parser.specs.Digits.{digit, digitsFrom, field, number, runAt, ofRun, runUpTo, nanoseconds, fraction}
+use Rattle.parser.specs.Digits.{digit, digitsFrom, field, number, runAt, ofRun, runAs, fractionOf, fraction}
 use Rattle.parser.proofs.Places.{no≢got, stop≢got, got-place}
 
 abbrev pub Ahead : {A : Type 0} → Reader A → Type 0
@@ -34,15 +34,15 @@ pub field-ahead : (n lo hi : ℕ) → Ahead (field n lo hi)
 unfolding field
 field-ahead n lo hi s at a m e = digits-ahead lo hi n 0 s at a m e
 
-pub run-ahead : (most r : ℕ) → Ahead (runUpTo most r)
-unfolding runUpTo
-run-ahead most r s at a n e = go (runAt s at) e
+pub run-ahead : {A : Type 0} (f : List ℕ → A) (most r : ℕ) → Ahead (runAs f most r)
+unfolding runAs
+run-ahead f most r s at a n e = go (runAt s at) e
   where
-    fits : (d : List ℕ) (t : Bool) → pick t (got (number d) (at + length d)) (stop r) ≡ got a n → at ≤ n
+    fits : (d : List ℕ) (t : Bool) → pick t (got (f d) (at + length d)) (stop r) ≡ got a n → at ≤ n
     fits d true e = omega (arith, got-place e)
     fits d false e = absurd (stop≢got e)
 
-    go : (d : List ℕ) → ofRun d no (pick (leb (number d) most) (got (number d) (at + length d)) (stop r)) ≡ got a n → at ≤ n
+    go : (d : List ℕ) → ofRun d no (pick (leb (number d) most) (got (f d) (at + length d)) (stop r)) ≡ got a n → at ≤ n
     go [] e = absurd (no≢got e)
     go (b ∷ d) e = fits (b ∷ d) (leb (number (b ∷ d)) most) e
 
@@ -50,7 +50,7 @@ pub fraction-ahead : Ahead fraction
 unfolding fraction
 fraction-ahead s at a n e = go (runAt s at) e
   where
-    go : (d : List ℕ) → ofRun d no (got (nanoseconds d) (at + length d)) ≡ got a n → at ≤ n
+    go : (d : List ℕ) → ofRun d no (got (fractionOf d) (at + length d)) ≡ got a n → at ≤ n
     go [] e = absurd (no≢got e)
     go (b ∷ d) e = omega (arith, got-place e)
 

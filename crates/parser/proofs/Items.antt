@@ -9,7 +9,7 @@ use lib.ListN.{length}
 use lib.Dec.{ltb, leb}
 use borrow.Author.Tests.{leb-true, le-leb, eqb-true}
 use Rattle.parser.specs.Reading.{Reader, lit, seq, opt, alt, map, and}
-use Rattle.parser.specs.Digits.{isDigit, field, lowest, highest, reach, limit, run, fraction}
+use Rattle.parser.specs.Digits.{isDigit, field, lowest, highest, reach, number, limit, run, fraction}
 use Rattle.parser.specs.Fields.{signed, either, precededBy}
 use Rattle.parser.proofs.Fields.{true≢false, and-first, and-second}
 use Rattle.parser.proofs.Stable.{lit-stable, field-stable, fraction-stable}
@@ -148,9 +148,9 @@ fraction-item {l} = record {
 -- a run and what must follow it, which starts with the byte c
 pub run-item : {B : Type 0} {l : List ℕ} (c : ℕ) {k n : ℕ} {F : B → Type 0} {q : ℕ → Reader B} → isDigit c ≡ false → ((v : ℕ) → Item l (byte c) k n F (q v)) → Item l isDigit (1 + k) (most (1 + k) n) F (seq run q)
 run-item {l = l} c {k = k} {F = F} {q = q} d hq = record {
-  lawful = seq-lawful (run-steady limit 2 (outside-digit l)) (run-then-ends (In (byte c)) q other begun) (λ v. hq v .lawful);
-  fails = seq-fails run q (run-fails limit 2);
-  eager = seq-eager run q (run-eager limit 2);
+  lawful = seq-lawful (run-steady number limit 2 (outside-digit l)) (run-then-ends (In (byte c)) q other begun) (λ v. hq v .lawful);
+  fails = seq-fails run q (run-fails number limit 2);
+  eager = seq-eager run q (run-eager number limit 2);
   starts = run-then-starts (In (byte c)) q other begun;
 }
   where

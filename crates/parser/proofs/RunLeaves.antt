@@ -10,7 +10,7 @@ use lib.Seq.{drop-append-le, drop-length}
 use lib.Dec.{ltb, leb}
 use borrow.Author.Tests.{ltb-false, le-ltb, le-leb, not-true}
 use Rattle.parser.specs.Reading.{no, got, stop, Reader, seq, pick}
-use Rattle.parser.specs.Digits.{isDigit, digits, number, numberFrom, runAt, ofRun, atTheEnd, runUpTo, limit, run, nanoseconds, fraction}
+use Rattle.parser.specs.Digits.{isDigit, digits, number, numberFrom, runAt, ofRun, atTheEnd, runAs, limit, run, fractionOf, fraction}
 use Rattle.parser.proofs.Fields.{and-first, and-second}
 use Rattle.parser.proofs.Runs.{run-end, digits-short}
 use Rattle.parser.proofs.Places.{run-foreign}
@@ -48,11 +48,11 @@ fraction-ends s at le h =
     record {
       first = 48;
       rest = [];
-      value = nanoseconds (drop at s ++ 48 ∷ []);
+      value = fractionOf (drop at s ++ 48 ∷ []);
       begins = refl;
       few = omega arith;
       fact = tt;
-      reads = rw (e, of-run (drop at s ++ 48 ∷ []) no (got (nanoseconds (drop at s ++ 48 ∷ [])) (at + length (drop at s ++ 48 ∷ []))) (omega (arith, length-append (drop at s) (48 ∷ []))), size);
+      reads = rw (e, of-run (drop at s ++ 48 ∷ []) no (got (fractionOf (drop at s ++ 48 ∷ [])) (at + length (drop at s ++ 48 ∷ []))) (omega (arith, length-append (drop at s) (48 ∷ []))), size);
     }
 
 end-open : (s : List ℕ) (at : ℕ) → length s ≤ at → atTheEnd s at ≡ true
@@ -69,19 +69,19 @@ fraction-hopeful s at le h = ends-weaken 1 AnyByte Anything (omega arith) (λ c 
 pub fraction-starts : Starts 1 DigitByte Anything fraction
 fraction-starts s = fraction-ends s (length s) (omega arith) (end-open s (length s) (omega arith))
 
-pub run-eager : (most r : ℕ) → Eager (runUpTo most r)
-unfolding runUpTo numberFrom
-run-eager most r s at h = rw (end-open s at h, run-end s at h) (le-leb 0 most (omega arith))
+pub run-eager : {A : Type 0} (f : List ℕ → A) (most r : ℕ) → Eager (runAs f most r)
+unfolding runAs numberFrom
+run-eager f most r s at h = rw (end-open s at h, run-end s at h) (le-leb 0 most (omega arith))
 
 run-starts : Starts 1 DigitByte Anything run
-unfolding runUpTo numberFrom
+unfolding runAs numberFrom
 run-starts s =
     let e : runAt (s ++ 48 ∷ []) (length s) ≡ 48 ∷ [] = zero-more s (length s) (omega arith) (end-open s (length s) (omega arith)) ∙ rw (drop-length s) in
     record { first = 48; rest = []; value = 0; begins = refl; few = omega arith; fact = tt; reads = rw (e, length-append s (48 ∷ [])) }
 
 -- a run that stands open at the end has no digit yet, or has a value there
 run-open : (s : List ℕ) (at : ℕ) → at ≤ length s → run .more s at ≡ true → (length s ≡ at) ⊎ ((v : ℕ) × (run .reads s at ≡ got v (length s)))
-unfolding runUpTo
+unfolding runAs
 run-open s at le h = go (runAt s at) (run-reaches s at le (and-first (atTheEnd s at) (leb (number (runAt s at)) limit) h)) (and-second (atTheEnd s at) h)
   where
     go : (d : List ℕ) → at + length d ≡ length s → leb (number d) limit ≡ true → (length s ≡ at) ⊎ ((v : ℕ) × (ofRun d no (pick (leb (number d) limit) (got (number d) (at + length d)) (stop 2)) ≡ got v (length s)))
@@ -91,7 +91,7 @@ run-open s at le h = go (runAt s at) (run-reaches s at le (and-first (atTheEnd s
 -- a run that stands open ends with what follows it, a byte that is no digit first; a zero is wanted where it has no digit yet
 module _ {B : Type 0} {k : ℕ} {F : B → Type 0} (X : ℕ → Type 0) (q : ℕ → Reader B) (nd : (c : ℕ) → X c → isDigit c ≡ false) (sq : (v : ℕ) → Starts k X F (q v)) where
   keeps : Keeps X run
-  keeps = foreign-keeps X run (run-foreign limit 2 X nd)
+  keeps = foreign-keeps X run (run-foreign number limit 2 X nd)
 
   pub run-then-starts : Starts (1 + k) DigitByte F (seq run q)
   run-then-starts s = ends-then-starts 1 k X F run q (omega arith) keeps (λ v _. sq v) (run-starts s)

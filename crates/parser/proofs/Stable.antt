@@ -9,7 +9,7 @@ use lib.Dec.{ltb, leb}
 use borrow.Author.Tests.{ltb-true, leb-true, leb-false, lt-ltb, lt-leb, not-false}
 use native.Mathlib.Omega.{arith}
 use Rattle.parser.specs.Reading.{Found, no, got, stop, Reader, lit, seq, after, opt, alt, failed, verify, must, map, give, pick, or, and}
-use Rattle.parser.specs.Digits.{isDigit, digitsFrom, digitsMore, field, digits, number, numberFrom, runAt, ofRun, atTheEnd, runUpTo, fraction}
+use Rattle.parser.specs.Digits.{isDigit, digitsFrom, digitsMore, field, digits, number, numberFrom, runAt, ofRun, atTheEnd, runAs, fraction}
 use Rattle.parser.proofs.Runs.{run-end, digits-inside, digits-more, number-append, number-grows}
 use Rattle.parser.proofs.Fields.{true≢false, and-right, DigitAt, OtherAt, digitsFrom-suc, digitsMore-suc, digitsFrom-other, digitsMore-other, digitsFrom-end, digitsMore-end, out-of-reach, out-no, out-settled}
 
@@ -147,18 +147,18 @@ run-grows s x at = go (leb at (length s)) refl
     go false e = rw (run-end s at (omega (arith, leb-false at (length s) e))) (number-grows (runAt (s ++ x) at) 0)
 
 -- a run's number that is past its limit stays there
-pub run-stable : (most r : ℕ) → Stable (runUpTo most r)
-unfolding runUpTo numberFrom
-run-stable most r s x at h = go (atTheEnd s at) refl h
+pub run-stable : {A : Type 0} (f : List ℕ → A) (most r : ℕ) → Stable (runAs f most r)
+unfolding runAs numberFrom
+run-stable f most r s x at h = go (atTheEnd s at) refl h
   where
-    still : (d d′ : List ℕ) → number d ≤ number d′ → leb (number d) most ≡ false → (leb (number d′) most ≡ false) × (ofRun d′ no (pick (leb (number d′) most) (got (number d′) (at + length d′)) (stop r)) ≡ ofRun d no (pick (leb (number d) most) (got (number d) (at + length d)) (stop r)))
+    still : (d d′ : List ℕ) → number d ≤ number d′ → leb (number d) most ≡ false → (leb (number d′) most ≡ false) × (ofRun d′ no (pick (leb (number d′) most) (got (f d′) (at + length d′)) (stop r)) ≡ ofRun d no (pick (leb (number d) most) (got (f d) (at + length d)) (stop r)))
     still [] d′ g big = absurd (let h = leb-false 0 most big in omega arith)
     still (b ∷ d) [] g big = absurd (let h = leb-false (number (b ∷ d)) most big in let z : number [] ≡ 0 = refl in omega arith)
     still (b ∷ d) (b′ ∷ d′) g big = let big′ = lt-leb (number (b′ ∷ d′)) most (omega (arith, leb-false (number (b ∷ d)) most big)) in (big′, rw (big, big′))
 
-    past : leb (number (runAt s at)) most ≡ false → Same (runUpTo most r) s x at
+    past : leb (number (runAt s at)) most ≡ false → Same (runAs f most r) s x at
     past big = let e = still (runAt s at) (runAt (s ++ x) at) (run-grows s x at) big in record { reads = e .1; more = and-right (atTheEnd (s ++ x) at) (e .0) }
 
-    go : (t : Bool) → atTheEnd s at ≡ t → and t (leb (number (runAt s at)) most) ≡ false → Same (runUpTo most r) s x at
+    go : (t : Bool) → atTheEnd s at ≡ t → and t (leb (number (runAt s at)) most) ≡ false → Same (runAs f most r) s x at
     go true e h = past h
     go false e h = let k = run-stays s x at e in record { reads = rw (k .0); more = rw (k .1) }

@@ -1,11 +1,12 @@
 -- What holds of every part of a rule, hope aside, travels together: stable, within the input, never back from its place, and deaf to bytes that
 -- it never takes.
 use Prim.Native.Nat.{ℕ, _≤_}
+use mathlib.Core.List.{List}
 use mathlib.Core.Bool.{Bool, true, false}
 use mathlib.Core.Path.{_≡_, refl, _∙_}
 use lib.ListN.{length}
 use Rattle.parser.specs.Reading.{Found, no, got, stop, Reader, seq, opt, alt, verify, must, keepOrStop, map, give, pick}
-use Rattle.parser.specs.Digits.{isDigit, runUpTo}
+use Rattle.parser.specs.Digits.{isDigit, runAs}
 use Rattle.parser.proofs.Stable.{Stable, give-stable, verify-stable, must-stable, map-stable, opt-stable, seq-stable, alt-stable, run-stable}
 use Rattle.parser.proofs.Places.{no≢got, stop≢got, Bounded, give-bounded, seq-bounded, opt-bounded, alt-bounded, verify-bounded, map-bounded, run-bounded}
 use Rattle.parser.proofs.Ahead.{Ahead, give-ahead, map-ahead, verify-ahead, must-ahead, opt-ahead, alt-ahead, seq-ahead, run-ahead}
@@ -65,5 +66,5 @@ module _ {X : ℕ → Type 0} where
     foreign = seq-foreign X p q (hp .bounded) (hp .foreign) (λ a. hq a .foreign);
   }
 
-  pub run-steady : (most r : ℕ) → ((c : ℕ) → X c → isDigit c ≡ false) → Steady X (runUpTo most r)
-  run-steady most r h = record { stable = run-stable most r; bounded = run-bounded most r; ahead = run-ahead most r; foreign = run-foreign most r X h }
+  pub run-steady : {A : Type 0} (f : List ℕ → A) (most r : ℕ) → ((c : ℕ) → X c → isDigit c ≡ false) → Steady X (runAs f most r)
+  run-steady f most r h = record { stable = run-stable f most r; bounded = run-bounded f most r; ahead = run-ahead f most r; foreign = run-foreign f most r X h }

@@ -1,18 +1,15 @@
 -- A rule that reads what another does, or stops the reading, and is open only where the other is. Where it is open and has a value, some few
 -- bytes more are read to the last one, as the other's are, or stop the reading.
-use Prim.Native.Nat.{ℕ, zero, suc, _+_, _*_, _-_}
+use Prim.Native.Nat.{ℕ, _+_}
 use mathlib.Core.List.{List, [], _∷_, _++_}
 use mathlib.Core.Bool.{Bool, true, false}
 use mathlib.Core.Path.{_≡_, refl, sym, _∙_}
 use mathlib.Core.Logic.{_⊎_, inl, inr}
-use native.Mathlib.Omega.{arith}
-use lib.ListN.{length, take, replicate}
+use lib.ListN.{length}
 use lib.Dec.{leb}
-use borrow.Author.Tests.{leb-true}
 use Rattle.parser.specs.Reading.{Found, no, got, stop, Reader, seq, after, opt, lack, must, keepOrStop, map, mapFound, or, pick}
-use Rattle.parser.specs.Digits.{number, numberFrom, runAt, ofRun, runUpTo, nanoseconds, fraction}
+use Rattle.parser.specs.Digits.{number, runAt, ofRun, runAs, fractionOf, fraction}
 use Rattle.parser.proofs.Fields.{true≢false, and-first}
-use Rattle.parser.proofs.Runs.{number-grows}
 use Rattle.parser.proofs.Places.{stop≢got}
 use Rattle.parser.proofs.Hopeful.{Ends, AnyByte, Hopeful, HopefulOr, Changes}
 
@@ -84,33 +81,19 @@ seq-stricter {A} {B} {p} {q} {f} {g} h k s at = record { reads = reads (q .reads
     more false em (got a n) ex (inl e) o = rw (← e, ex, k a s n .more o) (or-true (q .more s at))
     more false em (got a n) ex (inr (r, e)) o = absurd (stop≢got (sym e ∙ ex))
 
--- ---- digits that are all 0 are the fraction 0
+-- ---- a run whose number may not be above something reads as the fraction does, or stops the reading
 
-no-number : (n k : ℕ) → numberFrom 0 (take n (replicate k 48)) ≡ 0
-unfolding numberFrom
-no-number zero k = refl
-no-number (suc n) zero = refl
-no-number (suc n) (suc k) = no-number n k
-
-zeros-cut : (d : List ℕ) (n : ℕ) → number d ≡ 0 → number (take n (d ++ replicate 9 48)) ≡ 0
-unfolding numberFrom
-zeros-cut [] n e = no-number n 9
-zeros-cut (b ∷ d) zero e = refl
-zeros-cut (b ∷ d) (suc n) e =
-    let first : b - 48 ≡ 0 = omega (arith, number-grows d (0 * 10 + (b - 48)), e) in
-    rw first (zeros-cut d n (rw first at e))
-
-pub zeros-stricter : (r : ℕ) → Stricter (runUpTo 0 r) fraction
-unfolding runUpTo fraction
-zeros-stricter r s at = record { reads = go (runAt s at); more = λ h. and-first _ _ h }
+pub run-stricter : (most r : ℕ) → Stricter (runAs fractionOf most r) fraction
+unfolding runAs fraction
+run-stricter most r s at = record { reads = go (runAt s at); more = λ h. and-first _ _ h }
   where
-    some : (d : List ℕ) (t : Bool) → leb (number d) 0 ≡ t → SameOrStop (pick t (got (number d) (at + length d)) (stop r)) (got (nanoseconds d) (at + length d))
-    some d true e = let z : number d ≡ 0 = omega (arith, leb-true (number d) 0 e) in inl (rw (z, zeros-cut d 9 z))
-    some d false e = inr (r, refl)
+    some : (d : List ℕ) (t : Bool) → SameOrStop (pick t (got (fractionOf d) (at + length d)) (stop r)) (got (fractionOf d) (at + length d))
+    some d true = inl refl
+    some d false = inr (r, refl)
 
-    go : (d : List ℕ) → SameOrStop (ofRun d no (pick (leb (number d) 0) (got (number d) (at + length d)) (stop r))) (ofRun d no (got (nanoseconds d) (at + length d)))
+    go : (d : List ℕ) → SameOrStop (ofRun d no (pick (leb (number d) most) (got (fractionOf d) (at + length d)) (stop r))) (ofRun d no (got (fractionOf d) (at + length d)))
     go [] = inl refl
-    go (b ∷ d) = some (b ∷ d) (leb (number (b ∷ d)) 0) refl
+    go (b ∷ d) = some (b ∷ d) (leb (number (b ∷ d)) most)
 
 -- ---- hope
 

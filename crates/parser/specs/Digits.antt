@@ -4,6 +4,7 @@ use mathlib.Core.List.{List, [], _∷_, _++_}
 use mathlib.Core.Bool.{Bool, false, not}
 use lib.ListN.{length, getD, take, drop, replicate}
 use lib.Dec.{ltb, leb}
+use Rattle.types.specs.declared.Fraction.{Fraction}
 use Rattle.parser.specs.Reading.{Found, no, got, stop, Reader, and, pick, within}
 
 -- "A digit is a byte 48 to 57."
@@ -65,11 +66,11 @@ ofRun (b ∷ d) none some = some
 abbrev pub atTheEnd : List ℕ → ℕ → Bool
 atTheEnd s at = not (ltb (at + length (runAt s at)) (length s))
 
--- a digit run, one digit or more, read as a number; above the greatest that it may have it ends all reading, by the number r
-unfoldable pub runUpTo : ℕ → ℕ → Reader ℕ
-runUpTo most r = record {
+-- a digit run, one digit or more, with what its digits are read as; a number above the greatest that it may have ends all reading, by the number r
+unfoldable pub runAs : {A : Type 0} → (List ℕ → A) → ℕ → ℕ → Reader A
+runAs f most r = record {
   reads = λ s at.
-      ofRun (runAt s at) no (pick (leb (number (runAt s at)) most) (got (number (runAt s at)) (at + length (runAt s at))) (stop r));
+      ofRun (runAt s at) no (pick (leb (number (runAt s at)) most) (got (f (runAt s at)) (at + length (runAt s at))) (stop r));
   more = λ s at. and (atTheEnd s at) (leb (number (runAt s at)) most);
 }
 
@@ -78,15 +79,22 @@ abbrev pub limit : ℕ
 limit = 4294967295
 
 abbrev pub run : Reader ℕ
-run = runUpTo limit 2
+run = runAs number limit 2
 
 -- "the first nine digits, padded with zeros on the right; further digits are read and dropped"
 abbrev pub nanoseconds : List ℕ → ℕ
 nanoseconds d = number (take 9 (d ++ replicate 9 48))
 
--- "one or more digits", as a fraction in nanoseconds
-unfoldable pub fraction : Reader ℕ
+-- request W7: "the number of fraction digits written, 0 to 9, with more than nine stored as 9"
+abbrev pub upToNine : ℕ → ℕ
+upToNine n = pick (ltb 9 n) 9 n
+
+abbrev pub fractionOf : List ℕ → Fraction
+fractionOf d = record { nanosecond = nanoseconds d; digits = upToNine (length d) }
+
+-- "one or more digits", as a fraction of a second
+unfoldable pub fraction : Reader Fraction
 fraction = record {
-  reads = λ s at. ofRun (runAt s at) no (got (nanoseconds (runAt s at)) (at + length (runAt s at)));
+  reads = λ s at. ofRun (runAt s at) no (got (fractionOf (runAt s at)) (at + length (runAt s at)));
   more = atTheEnd;
 }

@@ -8,7 +8,7 @@ use lib.ListN.{length, getD}
 use lib.Dec.{ltb, leb, eqb}
 use borrow.Author.Tests.{ltb-true, ltb-false, leb-true, lt-ltb, le-ltb, le-leb, eqb-true, eq-eqb, ne-eqb, not-false, not-true}
 use Rattle.parser.specs.Reading.{Found, no, got, stop, lit, pick, and, Says}
-use Rattle.parser.specs.Digits.{isDigit, number, numberFrom, runAt, ofRun, limit, runUpTo, run}
+use Rattle.parser.specs.Digits.{isDigit, number, numberFrom, runAt, ofRun, limit, runAs, run}
 use Rattle.parser.proofs.Fields.{and-first, and-second, and-right, DigitAt, OtherAt, above-digits}
 use Rattle.parser.proofs.Runs.{run-step, run-other, run-end}
 use Rattle.parser.proofs.Places.{no≢got, got-place, stop≢got}
@@ -25,7 +25,7 @@ and-true false e = e
 
 module _ (s : List ℕ) (at v n : ℕ) (e : run .reads s at ≡ got v n) where
   pub run-inside : run .more s at ≡ false → n < length s
-  unfolding runUpTo
+  unfolding runAs
   run-inside m = go (runAt s at) (leb (number (runAt s at)) limit) e m
     where
       go : (d : List ℕ) (t : Bool) → ofRun d no (pick t (got (number d) (at + length d)) (stop 2)) ≡ got v n → and (not (ltb (at + length d) (length s))) t ≡ false → n < length s
@@ -34,7 +34,7 @@ module _ (s : List ℕ) (at v n : ℕ) (e : run .reads s at ≡ got v n) where
       go (b ∷ d) false e m = absurd (stop≢got e)
 
   pub run-to-end : run .more s at ≡ true → length s ≤ n
-  unfolding runUpTo
+  unfolding runAs
   run-to-end m = go (runAt s at) (leb (number (runAt s at)) limit) e m
     where
       go : (d : List ℕ) (t : Bool) → ofRun d no (pick t (got (number d) (at + length d)) (stop 2)) ≡ got v n → and (not (ltb (at + length d) (length s))) t ≡ true → length s ≤ n
@@ -47,7 +47,7 @@ module _ (s : List ℕ) (at v n : ℕ) (e : run .reads s at ≡ got v n) where
 
 -- a run stops with 2 alone
 pub run-stop : (s : List ℕ) (at r : ℕ) → run .reads s at ≡ stop r → (r ≡ 2) × (run .more s at ≡ false)
-unfolding runUpTo
+unfolding runAs
 run-stop s at r e = go (runAt s at) (leb (number (runAt s at)) limit) e
   where
     go : (d : List ℕ) (t : Bool) → ofRun d no (pick t (got (number d) (at + length d)) (stop 2)) ≡ stop r → (r ≡ 2) × (and (not (ltb (at + length d) (length s))) t ≡ false)
@@ -57,7 +57,7 @@ run-stop s at r e = go (runAt s at) (leb (number (runAt s at)) limit) e
 
 -- a run never leads back
 pub run-forward : (s : List ℕ) (at v n : ℕ) → run .reads s at ≡ got v n → at ≤ n
-unfolding runUpTo
+unfolding runAs
 run-forward s at v n e = go (runAt s at) (leb (number (runAt s at)) limit) e
   where
     go : (d : List ℕ) (t : Bool) → ofRun d no (pick t (got (number d) (at + length d)) (stop 2)) ≡ got v n → at ≤ n
@@ -73,11 +73,11 @@ item-is s at f m h = rw (← h .found, ← h .more)
 -- ---- what stands at a place, by its first bytes
 
 pub end-item : (s : List ℕ) (at : ℕ) → length s ≤ at → itemAt s at ≡ item.Cut
-unfolding itemAt runUpTo numberFrom
+unfolding itemAt runAs numberFrom
 end-item s at h = rw (run-end s at h, le-ltb (at + 0) (length s) (omega arith))
 
 pub other-item : (s : List ℕ) (at : ℕ) → OtherAt s at → itemAt s at ≡ item.Wrong
-unfolding itemAt runUpTo numberFrom
+unfolding itemAt runAs numberFrom
 other-item s at o = rw (run-other s at o, lt-ltb (at + 0) (length s) (omega (arith, ltb-true at (length s) (o .inside))))
 
 -- a single digit
@@ -86,14 +86,14 @@ module _ (s : List ℕ) (at : ℕ) (d : DigitAt s at) where
   small = le-leb (0 * 10 + (getD s at 0 - 48)) limit (omega (arith, leb-true (getD s at 0) 57 (and-second (leb 48 (getD s at 0)) (d .is))))
 
   pub digit-item : OtherAt s (at + 1) → itemAt s at ≡ item.Number (getD s at 0 - 48) (getD s (at + 1) 0) (at + 1 + 1)
-  unfolding itemAt runUpTo numberFrom
+  unfolding itemAt runAs numberFrom
   digit-item o = rw (run-step s at d, run-other s (at + 1) o, small, lt-ltb (at + 1) (length s) (ltb-true (at + 1) (length s) (o .inside))) (ap (λ (v : ℕ). item.Number v (getD s (at + 1) 0) (at + 1 + 1)) value)
     where
       value : 0 * 10 + (getD s at 0 - 48) ≡ getD s at 0 - 48
       value = omega arith
 
   pub last-digit-item : length s ≤ at + 1 → itemAt s at ≡ item.Cut
-  unfolding itemAt runUpTo numberFrom
+  unfolding itemAt runAs numberFrom
   last-digit-item h = rw (run-step s at d, run-end s (at + 1) h, small, le-ltb (at + 1) (length s) h)
 
 -- where a letter stands, no part begins
@@ -118,7 +118,7 @@ short-part s at c h = go (ltb at (length s)) (isDigit (getD s at 0)) refl refl
 -- two digits
 module _ (s : List ℕ) (at : ℕ) (d : DigitAt s at) (e : DigitAt s (at + 1)) (o : OtherAt s (at + 2)) where
   pub two-digit-item : itemAt s at ≡ item.Number (twoNumber (getD s at 0) (getD s (at + 1) 0)) (getD s (at + 2) 0) (at + 3)
-  unfolding itemAt runUpTo numberFrom
+  unfolding itemAt runAs numberFrom
   two-digit-item =
       let a = is-digit (getD s at 0) (d .is) in
       let b = is-digit (getD s (at + 1) 0) (e .is) in

@@ -20,7 +20,7 @@ use Rattle.words.proofs.Laws.{text-append}
 module _ (shown : Bool) (k : Kind) (s : List ℕ) (begun whole : Answer) (v : Verdict) where
   pub answered : Begins (bound k) (ruleOf k) s (told begun) v → Ended (ruleOf k) s (told whole)
       → {b n w m : ℕ} → b ≡ told begun .number → n ≡ told begun .count → w ≡ told whole .number → m ≡ told whole .count
-      → {h r : List ℕ} → h ≡ textOf (headWords n shown v w m) → r ≡ textOf (recordOrDash (told begun .value))
+      → {h r : List ℕ} → h ≡ textOf (headWords n shown v w m) → r ≡ textOf (recordOrDash shown (told begun .value))
       → {old mid end new : List ℕ} {at i j next : ℕ} → Puts (decimal b) old at mid i → Puts h mid i end j → Puts r end j new next
       → Gives (Answered shown k s) old at new next
   answered begins ends {b} {n} {w} {m} eb en ew em {h} {r} eh er first second third = record {
@@ -30,9 +30,9 @@ module _ (shown : Bool) (k : Kind) (s : List ℕ) (begun whole : Answer) (v : Ve
   }
 
 -- a record of one row, and one of two
-module _ (v : Record) {t old new : List ℕ} {at next : ℕ} where
-  pub one-row : t ≡ textOf (firstWords v) → thenWords v ≡ [] → Puts t old at new next → Puts (textOf (recordWords v)) old at new next
+module _ (shown : Bool) (v : Record) {t old new : List ℕ} {at next : ℕ} where
+  pub one-row : t ≡ textOf (firstWords shown v) → thenWords shown v ≡ [] → Puts t old at new next → Puts (textOf (recordWords shown v)) old at new next
   one-row first none put = rw (none, append-nil, ← first) put
 
-  pub two-rows : {mid : List ℕ} {n : ℕ} → t ≡ textOf (firstWords v) → Puts t old at mid n → Puts (textOf (thenWords v)) mid n new next → Puts (textOf (recordWords v)) old at new next
-  two-rows first put more = rw (text-append (firstWords v) (thenWords v), ← first) (then-puts put more)
+  pub two-rows : {mid : List ℕ} {n : ℕ} → t ≡ textOf (firstWords shown v) → Puts t old at mid n → Puts (textOf (thenWords shown v)) mid n new next → Puts (textOf (recordWords shown v)) old at new next
+  two-rows first put more = rw (text-append (firstWords shown v) (thenWords shown v), ← first) (then-puts put more)

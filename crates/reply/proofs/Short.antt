@@ -60,27 +60,27 @@ date-few (YMD y m d) = omega arith
 date-few (Week y w d) = omega arith
 date-few (Ordinal y d) = omega arith
 
-first-few : (v : Record) → length (firstWords v) + length (thenWords v) ≤ 10
-first-few (record-of.Date v) = omega (arith, date-few v)
-first-few (record-of.Time v) = omega arith
-first-few (record-of.Offset v) = omega arith
-first-few (record-of.Stamp v) = omega (arith, date-few (v .date))
-first-few (record-of.Duration v) = omega arith
+first-few : (shown : Bool) (v : Record) → length (firstWords shown v) + length (thenWords shown v) ≤ 11
+first-few shown (record-of.Date v) = omega (arith, date-few v)
+first-few shown (record-of.Time v) = omega arith
+first-few shown (record-of.Offset v) = omega arith
+first-few shown (record-of.Stamp v) = omega (arith, date-few (v .date))
+first-few shown (record-of.Duration v) = omega arith
 
-pub record-few : (v : Option Record) → length (recordOrDash v) ≤ 10
-record-few none = omega arith
-record-few (some v) = rw length-append (first-few v)
+pub record-few : (shown : Bool) (v : Option Record) → length (recordOrDash shown v) ≤ 11
+record-few shown none = omega arith
+record-few shown (some v) = rw length-append (first-few shown v)
 
-parts-short : (a b c : List ℕ) → length a ≤ 20 → length b ≤ 88 → length c ≤ 220 → length (a ++ (b ++ c)) ≤ 400
+parts-short : (a b c : List ℕ) → length a ≤ 20 → length b ≤ 88 → length c ≤ 242 → length (a ++ (b ++ c)) ≤ 400
 parts-short a b c x y z = simp length-append (omega arith)
 
 pub answer-short : (shown : Bool) (q : Letter) (s t : List ℕ) → AnswersTo shown q s t → length t ≤ 400
 answer-short shown (Names k) s t a =
     let head = headWords (a .begun .count) shown (a .verdict) (a .whole .number) (a .whole .count) in
-    let value = recordOrDash (a .begun .value) in
+    let value = recordOrDash shown (a .begun .value) in
     rw (a .says)
     (parts-short (decimal (a .begun .number)) (textOf head) (textOf value) (digits-short 20 (a .begun .number)) (text-short head)
-    (omega (arith, text-short value, record-few (a .begun .value))))
+    (omega (arith, text-short value, record-few shown (a .begun .value))))
 answer-short shown Unknown s t a = rw a (omega (arith, letters-short name.Unknown))
 
 pub line-short : (l t : List ℕ) → AnswersLine l t → length t ≤ 512

@@ -25,37 +25,37 @@ use Rattle.reply.specs.declared.Head.{Head}
 use Rattle.words.specs.Records.{headWords, offsetWords, timeWords, dateWords, durationWords}
 
 -- "for a date-time the date's words, then the time's"
-abbrev pub firstWords : Record → List Word
-firstWords (record-of.Date v) = dateWords v
-firstWords (record-of.Time v) = timeWords v
-firstWords (record-of.Offset v) = offsetWords v
-firstWords (record-of.Stamp v) = dateWords (v .date)
-firstWords (record-of.Duration v) = durationWords v
+abbrev pub firstWords : Bool → Record → List Word
+firstWords shown (record-of.Date v) = dateWords v
+firstWords shown (record-of.Time v) = timeWords shown v
+firstWords shown (record-of.Offset v) = offsetWords v
+firstWords shown (record-of.Stamp v) = dateWords (v .date)
+firstWords shown (record-of.Duration v) = durationWords v
 
-abbrev pub thenWords : Record → List Word
-thenWords (record-of.Stamp v) = timeWords (v .time)
-thenWords (record-of.Date v) = []
-thenWords (record-of.Time v) = []
-thenWords (record-of.Offset v) = []
-thenWords (record-of.Duration v) = []
+abbrev pub thenWords : Bool → Record → List Word
+thenWords shown (record-of.Stamp v) = timeWords shown (v .time)
+thenWords shown (record-of.Date v) = []
+thenWords shown (record-of.Time v) = []
+thenWords shown (record-of.Offset v) = []
+thenWords shown (record-of.Duration v) = []
 
-abbrev pub recordWords : Record → List Word
-recordWords r = firstWords r ++ thenWords r
+abbrev pub recordWords : Bool → Record → List Word
+recordWords shown r = firstWords shown r ++ thenWords shown r
 
 -- "RECORD: `-` where B is not 0"
-abbrev pub recordOrDash : Option Record → List Word
-recordOrDash (some v) = recordWords v
-recordOrDash none = Named name.Dash ∷ []
+abbrev pub recordOrDash : Bool → Option Record → List Word
+recordOrDash shown (some v) = recordWords shown v
+recordOrDash shown none = Named name.Dash ∷ []
 
--- what a kind's two readers tell of the text s, in words: t, `B COUNT VERDICT W WCOUNT RECORD`, the verdict where it is shown. The kind's rule
--- fixes all that they tell.
+-- what a kind's two readers tell of the text s, in words: t, `B COUNT VERDICT W WCOUNT RECORD`, the verdict and a time's digits where they are
+-- shown. The kind's rule fixes all that they tell.
 pub record Answered (shown : Bool) (k : Kind) (s t : List ℕ) : Type 0 where
   pub begun : Told Record
   pub verdict : Verdict
   pub whole : Told Record
   pub begins : Begins (bound k) (ruleOf k) s begun verdict
   pub ends : Ended (ruleOf k) s whole
-  pub says : t ≡ decimal (begun .number) ++ (textOf (headWords (begun .count) shown verdict (whole .number) (whole .count)) ++ textOf (recordOrDash (begun .value)))
+  pub says : t ≡ decimal (begun .number) ++ (textOf (headWords (begun .count) shown verdict (whole .number) (whole .count)) ++ textOf (recordOrDash shown (begun .value)))
 
 -- where the text of a line begins, behind its space, and what is chosen: behind a letter alone, document 01's
 abbrev pub plainHead : Head

@@ -25,12 +25,12 @@ use words::word::Name;
 use words::word::Word;
 
 // A record's words; of a date-time the date's, and the time's follow.
-fn first_row(value: Record) -> [Word; 9]
-    ensures { λ r. ⌜ textOf r ≡ textOf (firstWords value) ⌝ }
+fn first_row(value: Record, shown: bool) -> [Word; 9]
+    ensures { λ r. ⌜ textOf r ≡ textOf (firstWords shown value) ⌝ }
 {
     match value {
         Record::Date(v) => records::date(v),
-        Record::Time(v) => records::time(v),
+        Record::Time(v) => records::time(v, shown),
         Record::Offset(v) => records::offset(v),
         Record::Stamp(v) => {
             let date = v.date;
@@ -40,14 +40,14 @@ fn first_row(value: Record) -> [Word; 9]
     }
 }
 
-fn put_record(out: &mut [u8], at: usize, value: Record) -> usize
-    ensures { λ r. ⌜ Puts (textOf (recordWords value)) (now (out .entry)) at (now (out .exit)) r ⌝ }
+fn put_record(out: &mut [u8], at: usize, value: Record, shown: bool) -> usize
+    ensures { λ r. ⌜ Puts (textOf (recordWords shown value)) (now (out .entry)) at (now (out .exit)) r ⌝ }
 {
-    let next = put_words(out, at, first_row(value));
+    let next = put_words(out, at, first_row(value, shown));
     match value {
         Record::Stamp(v) => {
             let time = v.time;
-            put_words(out, next, records::time(time))
+            put_words(out, next, records::time(time, shown))
         }
         Record::Date(_) => next,
         Record::Time(_) => next,
@@ -56,12 +56,12 @@ fn put_record(out: &mut [u8], at: usize, value: Record) -> usize
     }
 }
 
-// RECORD, or a dash where there is none
-pub fn put_told(out: &mut [u8], at: usize, answer: Answer) -> usize
-    ensures { λ r. ⌜ Puts (textOf (recordOrDash (told answer .value))) (now (out .entry)) at (now (out .exit)) r ⌝ }
+// RECORD, or a dash where there is none. `shown`: with the digits of a time, which no other library has.
+pub fn put_told(out: &mut [u8], at: usize, answer: Answer, shown: bool) -> usize
+    ensures { λ r. ⌜ Puts (textOf (recordOrDash shown (told answer .value))) (now (out .entry)) at (now (out .exit)) r ⌝ }
 {
     match answer {
-        Answer::Record { value, count: _ } => put_record(out, at, value),
+        Answer::Record { value, count: _ } => put_record(out, at, value, shown),
         Answer::Refused { why: _, count: _ } => put_word(out, at, Word::Name(Name::Dash)),
     }
 }
@@ -80,7 +80,7 @@ fn answer_text(kind: Kind, s: &[u8], shown: bool, out: &mut [u8], at: usize) -> 
         next,
         records::head(begun.count(), shown, verdict, whole.number(), whole.count()),
     );
-    put_told(out, next, begun)
+    put_told(out, next, begun, shown)
 }
 
 // What stands before the text of a line, up to its space: a letter, and `4` behind it for edition 2004.
@@ -147,7 +147,7 @@ pub fn plain_question(line: &[u8]) -> Letter
     question_in(Head::PLAIN, line)
 }
 
-// The answer to a line without its end. `shown`: with the verdict, which no other library has.
+// The answer to a line without its end. `shown`: with the verdict and the digits of a time, which no other library has.
 pub fn answer(line: &[u8], shown: bool, out: &mut [u8], at: usize) -> usize
     ensures { λ r. ⌜ Gives (Answers shown (now (line .entry))) (now (out .entry)) at (now (out .exit)) r ⌝ }
 {

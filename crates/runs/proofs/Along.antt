@@ -8,10 +8,10 @@ use lib.ListN.{length, getD}
 use lib.Dec.{ltb, leb}
 use borrow.Author.Tests.{lt-ltb, le-ltb, le-leb, lt-leb}
 use Rattle.parser.specs.Reading.{Reader, Says, no, got, stop, and, pick}
-use Rattle.parser.specs.Digits.{numberFrom, number, runAt, ofRun, atTheEnd, runUpTo}
+use Rattle.parser.specs.Digits.{numberFrom, number, runAt, ofRun, atTheEnd, runAs, nanoseconds, fractionOf}
 use Rattle.parser.proofs.Fields.{DigitAt, and-right}
 use Rattle.parser.proofs.Runs.{run-step, number-grows}
-use Rattle.runs.specs.Read.{foundRun, foundUpTo, runMore}
+use Rattle.runs.specs.Read.{foundRun, foundAs, fractionAs, runMore}
 
 -- a run's number and end, as a loop that has come to `next` with the number `value` has them still before it
 pub record Along (s : List ℕ) (at value next : ℕ) : Type 0 where
@@ -32,35 +32,40 @@ along-step s at value next g d =
       number = sym (rw e) ∙ g .number;
     }
 
--- what `found_run` tells is what a reader finds that reads a run d, to its last digit, as the number v
-pub found-run-says : (q : ℕ) (r : Reader ℕ) (s : List ℕ) (at : ℕ) (d : List ℕ) (v next : ℕ) (more : Bool) → r .reads s at ≡ ofRun d no (got v (at + length d)) → r .more s at ≡ more → next ≡ at + length d → Says r s at (foundUpTo q (foundRun (ltb at next) more v next)) (runMore (foundRun (ltb at next) more v next))
-found-run-says q r s at [] v next true er em en = let o = le-ltb at next (omega arith) in record { found = rw o (sym er); more = rw o (sym em) }
-found-run-says q r s at [] v next false er em en = let o = le-ltb at next (omega arith) in record { found = rw o (sym er); more = rw o (sym em) }
-found-run-says q r s at (b ∷ d) v next more er em en = let o = lt-ltb at next (omega arith) in record { found = rw (o, en) (sym er); more = rw o (sym em) }
+-- what `found_run` tells is what a reader finds that reads a run d, to its last digit, as its number v and its end tell
+pub found-run-says : {A : Type 0} (f : ℕ → ℕ → A) (q : ℕ) (r : Reader A) (s : List ℕ) (at : ℕ) (d : List ℕ) (v next : ℕ) (more : Bool) → r .reads s at ≡ ofRun d no (got (f v next) (at + length d)) → r .more s at ≡ more → next ≡ at + length d → Says r s at (foundAs f q (foundRun (ltb at next) more v next)) (runMore (foundRun (ltb at next) more v next))
+found-run-says f q r s at [] v next true er em en = let o = le-ltb at next (omega arith) in record { found = rw o (sym er); more = rw o (sym em) }
+found-run-says f q r s at [] v next false er em en = let o = le-ltb at next (omega arith) in record { found = rw o (sym er); more = rw o (sym em) }
+found-run-says f q r s at (b ∷ d) v next more er em en = let o = lt-ltb at next (omega arith) in record { found = rw o (ap (got (f v next)) en ∙ sym er); more = rw o (sym em) }
+
+-- a fraction's digits are the bytes from its first place to its end
+pub fraction-is : (at v next : ℕ) (d : List ℕ) → nanoseconds d ≡ v → next ≡ at + length d → fractionOf d ≡ fractionAs at v next
+fraction-is at v next d e en = let size : next - at ≡ length d = omega arith in rw (e, size)
 
 -- ---- a run with a greatest number that it may have
 
-module _ (most q : ℕ) (s : List ℕ) (at value next : ℕ) (g : Along s at value next) where
+module _ {A : Type 0} (read : List ℕ → A) (most q : ℕ) (s : List ℕ) (at value next : ℕ) (g : Along s at value next) where
   -- it has ended at `next`, and its number is not past that
-  pub ended : (more : Bool) → value ≤ most → runAt s next ≡ [] → atTheEnd s at ≡ more → Says (runUpTo most q) s at (foundUpTo q (foundRun (ltb at next) more value next)) (runMore (foundRun (ltb at next) more value next))
-  unfolding runUpTo numberFrom
-  ended more small e em =
+  pub ended : (f : ℕ → ℕ → A) (more : Bool) → value ≤ most → runAt s next ≡ [] → atTheEnd s at ≡ more → ((d : List ℕ) → number d ≡ value → next ≡ at + length d → read d ≡ f value next) → Says (runAs read most q) s at (foundAs f q (foundRun (ltb at next) more value next)) (runMore (foundRun (ltb at next) more value next))
+  unfolding runAs numberFrom
+  ended f more small e em is =
       let n : number (runAt s at) ≡ value = sym (g .number) ∙ rw e in
       let fits : leb (number (runAt s at)) most ≡ true = rw n (le-leb value most small) in
-      found-run-says q (runUpTo most q) s at (runAt s at) value next more (rw (fits, n)) (rw (em, fits) (and-true more)) (omega (arith, g .ends, ap length e))
+      let end : next ≡ at + length (runAt s at) = omega (arith, g .ends, ap length e) in
+      found-run-says f q (runAs read most q) s at (runAt s at) value next more (rw (fits, is (runAt s at) n end)) (rw (em, fits) (and-true more)) end
     where
       and-true : (t : Bool) → and t true ≡ t
       and-true true = refl
       and-true false = refl
 
   -- its number is past that, whatever digits follow
-  pub past : DigitAt s next → most < value * 10 + (getD s next 0 - 48) → Says (runUpTo most q) s at (stop q) false
-  unfolding runUpTo
+  pub past : DigitAt s next → most < value * 10 + (getD s next 0 - 48) → Says (runAs read most q) s at (stop q) false
+  unfolding runAs
   past d h =
       let g′ = along-step s at value next g d in
       let big : leb (number (runAt s at)) most ≡ false = lt-leb (number (runAt s at)) most (omega (arith, g′ .number, number-grows (runAt s (next + 1)) (value * 10 + (getD s next 0 - 48)))) in
       record { found = some-digit (runAt s at) (omega (arith, g .ends, g .ahead, ap length (run-step s next d))) big; more = sym (and-right (atTheEnd s at) big) }
     where
-      some-digit : (x : List ℕ) → 0 < length x → leb (number x) most ≡ false → stop q ≡ ofRun x no (pick (leb (number x) most) (got (number x) (at + length x)) (stop q))
+      some-digit : (x : List ℕ) → 0 < length x → leb (number x) most ≡ false → stop q ≡ ofRun x no (pick (leb (number x) most) (got (read x) (at + length x)) (stop q))
       some-digit [] h e = absurd (omega arith)
       some-digit (b ∷ x) h e = rw e

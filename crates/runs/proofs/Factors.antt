@@ -4,8 +4,8 @@ use mathlib.Core.List.{List, [], _∷_, _++_}
 use mathlib.Core.Path.{_≡_, refl, sym, ap, _∙_}
 use native.Mathlib.Omega.{arith}
 use native.Mathlib.Nat.{add-mul, mul-one, add-zero}
-use lib.ListN.{getD, take, replicate}
-use Rattle.parser.specs.Digits.{numberFrom, nanoseconds}
+use lib.ListN.{length, getD, take, replicate}
+use Rattle.parser.specs.Digits.{numberFrom, number, nanoseconds}
 use Rattle.runs.proofs.Nanoseconds.{times-ten}
 
 -- ---- the table of factors
@@ -65,3 +65,15 @@ places-number (suc k) (b ∷ d) v h =
 -- "the first nine digits, padded with zeros on the right"
 pub nanoseconds-by-places : (d : List ℕ) → byPlaces 9 d ≡ nanoseconds d
 nanoseconds-by-places d = omega (arith, places-number 9 d 0 (omega arith))
+
+-- nine digits or fewer are their number, by the places that are missing
+short-number : (d : List ℕ) (k v : ℕ) → length d ≤ k → k ≤ 9 → numberFrom v (take k (d ++ replicate 9 48)) ≡ numberFrom v d * 10 ^ (k - length d)
+unfolding numberFrom
+short-number [] k v h n = let all : k ≡ k - 0 = omega arith in zeros-number k 9 v n ∙ ap (λ (e : ℕ). v * 10 ^ e) all
+short-number (b ∷ d) zero v h n = absurd (omega arith)
+short-number (b ∷ d) (suc k) v h n =
+    let left : k - length d ≡ suc k - suc (length d) = omega arith in
+    short-number d k (v * 10 + (b - 48)) (omega arith) (omega arith) ∙ ap (λ (e : ℕ). numberFrom (v * 10 + (b - 48)) d * 10 ^ e) left
+
+pub nanoseconds-short : (d : List ℕ) → length d ≤ 9 → nanoseconds d ≡ number d * 10 ^ (9 - length d)
+nanoseconds-short d h = short-number d 9 0 h (omega arith)

@@ -1,4 +1,4 @@
--- Nine digits stay below the power of ten that they reach.
+-- Nine digits stay below the power of ten that they reach, and zeros are no nanoseconds.
 use Prim.Native.Nat.{ℕ, zero, suc, _+_, _*_, _-_, _^_, _<_, _≤_}
 use mathlib.Core.List.{List, [], _∷_, _++_}
 use mathlib.Core.Bool.{Bool, true, false}
@@ -9,8 +9,9 @@ use lib.ListN.{take, replicate}
 use lib.Dec.{leb}
 use borrow.Author.Tests.{leb-true}
 use Rattle.parser.specs.Reading.{pick}
-use Rattle.parser.specs.Digits.{isDigit, digits, numberFrom, nanoseconds}
+use Rattle.parser.specs.Digits.{isDigit, digits, numberFrom, number, nanoseconds}
 use Rattle.parser.proofs.Fields.{and-second}
+use Rattle.parser.proofs.Runs.{number-grows}
 
 -- bytes up to `9`
 data Digits : List ℕ → Type 0 where
@@ -46,3 +47,22 @@ zeros (suc n) = also {b = 48} (omega arith) (zeros n)
 
 pub nanoseconds-small : (l : List ℕ) → nanoseconds (digits l) < 1000000000
 nanoseconds-small l = number-below (digits l ++ replicate 9 48) (run-digits l (replicate 9 48) (zeros 9)) 9 0 1 (omega arith)
+
+-- ---- digits that are all 0
+
+no-number : (n k : ℕ) → numberFrom 0 (take n (replicate k 48)) ≡ 0
+unfolding numberFrom
+no-number zero k = refl
+no-number (suc n) zero = refl
+no-number (suc n) (suc k) = no-number n k
+
+zeros-cut : (d : List ℕ) (n : ℕ) → number d ≡ 0 → number (take n (d ++ replicate 9 48)) ≡ 0
+unfolding numberFrom
+zeros-cut [] n e = no-number n 9
+zeros-cut (b ∷ d) zero e = refl
+zeros-cut (b ∷ d) (suc n) e =
+    let first : b - 48 ≡ 0 = omega (arith, number-grows d (0 * 10 + (b - 48)), e) in
+    rw first (zeros-cut d n (rw first at e))
+
+pub nanoseconds-zero : (d : List ℕ) → number d ≡ 0 → nanoseconds d ≡ 0
+nanoseconds-zero d e = zeros-cut d 9 e

@@ -5,8 +5,9 @@ ghost use Prim.Native.Nat.{_+_, _-_, _^_, _<_};
 ghost use lib.Dec.{ltb};
 ghost use lib.ListN.{length};
 ghost use Rattle.parser.specs.Reading.{Says};
-ghost use Rattle.parser.specs.Digits.{run, runUpTo, fraction, runAt};
-ghost use Rattle.runs.specs.Read.{foundRun, foundUpTo, runFound, runMore};
+ghost use Rattle.parser.specs.Digits.{run, runAs, upToNine, fractionOf, fraction, runAt};
+ghost use Rattle.runs.specs.Read.{foundRun, runFound, fractionFound, runMore};
+use types::Fraction;
 
 // What a digit run finds. `more`: it reaches the end of the input, where a digit could still be added.
 pub enum Run {
@@ -53,9 +54,9 @@ pub fn take_digits(s: &[u8], at: usize) -> Run
     found_run(at, next, value, true)
 }
 
-// A run of zeros, of any length: one other digit is too big.
+// A fraction of zeros, of any length: one other digit is too big.
 pub fn take_zeros(s: &[u8], at: usize) -> Run
-    ensures { λ r. ⌜ Says (runUpTo 0 1) (now (s .entry)) at (foundUpTo 1 r) (runMore r) ⌝ }
+    ensures { λ r. ⌜ Says (runAs fractionOf 0 1) (now (s .entry)) at (fractionFound at r) (runMore r) ⌝ }
 {
     let mut next = at;
     while next < s.len() {
@@ -115,7 +116,7 @@ fn factor(place: usize) -> u32
 
 // The fraction of a second after its comma or point, in nanoseconds: digits past the ninth are read and dropped.
 pub fn fraction_nanosecond(s: &[u8], at: usize) -> Run
-    ensures { λ r. ⌜ Says fraction (now (s .entry)) at (runFound r) (runMore r) ⌝ }
+    ensures { λ r. ⌜ Says fraction (now (s .entry)) at (fractionFound at r) (runMore r) ⌝ }
 {
     let mut value: u32 = 0;
     let mut next = at;
@@ -141,4 +142,35 @@ pub fn fraction_nanosecond(s: &[u8], at: usize) -> Run
         next: end,
         more: s.len() <= end,
     }
+}
+
+// How many of a fraction's digits are stored, of so many that were written.
+pub fn digits_stored(written: usize) -> u32
+    ensures { λ r. ⌜ r ≡ upToNine written ⌝ }
+{
+    if 9 < written { 9 } else { written as u32 }
+}
+
+// A fraction of so many nanoseconds, of which so many digits were written.
+pub fn fraction_of(nanosecond: u32, written: usize) -> Fraction
+    ensures nanosecond { λ r. ⌜ r .nanosecond ≡ nanosecond ⌝ }
+    ensures digits { λ r. ⌜ r .digits ≡ upToNine written ⌝ }
+{
+    Fraction {
+        nanosecond,
+        digits: digits_stored(written),
+    }
+}
+
+// What the last of so many digits is worth, of nine.
+pub fn unit(digits: usize) -> u32
+    ensures { λ r. ⌜ r ≡ 10 ^ (9 - digits) ⌝ }
+{
+    if digits == 0 {
+        return 1000000000;
+    }
+    if 9 < digits {
+        return 1;
+    }
+    factor(digits - 1)
 }

@@ -43,7 +43,7 @@ unknown = 117 ∷ 110 ∷ 107 ∷ 110 ∷ 111 ∷ 119 ∷ 110 ∷ []
 abbrev pub Tells : List ℕ → List ℕ → List ℕ → Type 0
 Tells ours theirs t = ((ours ≡ theirs) × (t ≡ same)) ⊎ ((ours ≡ theirs → ⊥) × (t ≡ differs ++ ours))
 
--- our answer, without its verdict
+-- our answer, without its verdict and a time's digits
 abbrev pub Told : List ℕ → ℕ → List ℕ → Type 0
 Told l tab ours = Answers false (questionIn tab l) ours
 

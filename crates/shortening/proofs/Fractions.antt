@@ -1,4 +1,4 @@
--- Nine digits of a fraction decide its number, and one digit stands for two whether all are 0; a comma or point with at most ten digits is
+-- Nine digits of a fraction decide its number and how many are stored, and one digit stands for two whether all are 0; a comma or point with at most ten digits is
 -- eleven bytes.
 use Prim.Native.Nat.{ℕ, _+_, _-_, _*_, _<_, _≤_}
 use mathlib.Core.List.{List, [], _∷_, _++_, append-assoc}
@@ -9,8 +9,9 @@ use lib.ListN.{length, getD, replicate, length-append, List·getD-append, List·
 use lib.Seq.{drop-append-add, take-at, getD-append-seam}
 use lib.Dec.{ltb, leb, eqb}
 use borrow.Author.Tests.{ltb-true, ltb-false, lt-ltb, lt-leb, leb-true, eqb-true, eqb-false, eq-eqb, ne-eqb, not-true}
+use Rattle.types.specs.declared.Fraction.{Fraction}
 use Rattle.parser.specs.Reading.{Found, no, got, stop, Reader, lit, seq, then, after, alt, orElse, failed, pick, or, and}
-use Rattle.parser.specs.Digits.{isDigit, digits, number, numberFrom, runAt, ofRun, atTheEnd, runUpTo, nanoseconds, fraction}
+use Rattle.parser.specs.Digits.{isDigit, digits, number, numberFrom, runAt, ofRun, atTheEnd, runAs, nanoseconds, fractionOf, fraction}
 use Rattle.parser.specs.Fields.{either}
 use Rattle.parser.proofs.Fields.{true≢false, and-first, and-second}
 use Rattle.parser.proofs.Places.{no≢got, stop≢got, got-place, Bounded, Foreign, seq-bounded, alt-bounded, lit-bounded, run-bounded, run-foreign, fraction-bounded, fraction-foreign}
@@ -23,11 +24,11 @@ use Rattle.shortening.proofs.Fields.{point-no-digit}
 
 -- ---- what reads the digits behind a comma or point: its run d, up to the place k, is told as `value d k`
 
-pub record Leaf (q : Reader ℕ) : Type 0 where
-  pub value : List ℕ → ℕ → Found ℕ
+pub record Leaf {A : Type 0} (q : Reader A) : Type 0 where
+  pub value : List ℕ → ℕ → Found A
   pub reads : (s : List ℕ) (at : ℕ) → q .reads s at ≡ ofRun (runAt s at) no (value (runAt s at) (at + length (runAt s at)))
   pub opens : (s : List ℕ) (at : ℕ) → q .more s at ≡ true → atTheEnd s at ≡ true
-  pub ends : (d : List ℕ) (k a n : ℕ) → value d k ≡ got a n → n ≡ k
+  pub ends : (d : List ℕ) (k : ℕ) (a : A) (n : ℕ) → value d k ≡ got a n → n ≡ k
   pub local : Local q
   pub bounded : Bounded q
   pub foreign : Foreign (λ b. isPoint b ≡ true) q
@@ -35,20 +36,26 @@ pub record Leaf (q : Reader ℕ) : Type 0 where
 
 -- ---- the fraction: nine digits decide
 
-nine-decide : (n r : List ℕ) → length n ≡ 9 → nanoseconds (n ++ r) ≡ number n
-nine-decide n r h = rw (append-assoc n r (replicate 9 48), take-at n (r ++ replicate 9 48) 9 h)
+nine-decide : (n r : List ℕ) → length n ≡ 9 → 0 < length r → fractionOf (n ++ r) ≡ record { nanosecond = number n; digits = 9 }
+nine-decide n r h some =
+    let nano : nanoseconds (n ++ r) ≡ number n = rw (append-assoc n r (replicate 9 48), take-at n (r ++ replicate 9 48) 9 h) in
+    rw (nano, lt-ltb 9 (length (n ++ r)) (omega (arith, length-append n r)))
+
+-- with one digit for two behind them it is the same fraction
+same-fraction : (z : FractionCut) (x : List ℕ) → fractionOf (z .nine ++ (z .tenth ∷ z .next ∷ x)) ≡ fractionOf (z .nine ++ (z .one ∷ x))
+same-fraction z x = nine-decide (z .nine) (z .tenth ∷ z .next ∷ x) (z .size) (omega arith) ∙ sym (nine-decide (z .nine) (z .one ∷ x) (z .size) (omega arith))
 
 pub fraction-leaf : Leaf fraction
 unfolding fraction
 fraction-leaf = record {
-  value = λ d k. got (nanoseconds d) k;
+  value = λ d k. got (fractionOf d) k;
   reads = λ s at. refl;
   opens = λ s at o. o;
   ends = λ d k a n e. sym (got-place e);
   local = fraction-local;
   bounded = fraction-bounded;
   foreign = fraction-foreign (λ b. isPoint b ≡ true) point-no-digit;
-  same = λ z x m n e. record { place = m; found = rw (nine-decide (z .nine) (z .tenth ∷ z .next ∷ x) (z .size), nine-decide (z .nine) (z .one ∷ x) (z .size)); same = e };
+  same = λ z x m n e. record { place = m; found = rw (same-fraction z x); same = e };
 }
 
 -- ---- zeros: one digit stands for two
@@ -91,29 +98,29 @@ zero-joined z x =
     and-assoc true u = refl
     and-assoc false u = refl
 
-pub zeros-leaf : (r : ℕ) → Leaf (runUpTo 0 r)
-unfolding runUpTo
+pub zeros-leaf : (r : ℕ) → Leaf (runAs fractionOf 0 r)
+unfolding runAs
 zeros-leaf r = record {
   value = value;
   reads = λ s at. refl;
   opens = λ s at o. and-first (atTheEnd s at) _ o;
   ends = λ d k a n. ends d k a n (leb (number d) 0);
-  local = run-local 0 r;
-  bounded = run-bounded 0 r;
-  foreign = run-foreign 0 r (λ b. isPoint b ≡ true) point-no-digit;
-  same = λ z x m n e. same z m n e (number (z .nine ++ (z .tenth ∷ z .next ∷ x))) (number (z .nine ++ (z .one ∷ x))) (leb (number (z .nine ++ (z .one ∷ x))) 0) (zero-joined z x) refl;
+  local = run-local fractionOf 0 r;
+  bounded = run-bounded fractionOf 0 r;
+  foreign = run-foreign fractionOf 0 r (λ b. isPoint b ≡ true) point-no-digit;
+  same = λ z x m n e. rw (zero-joined z x, same-fraction z x) (same z m n e (fractionOf (z .nine ++ (z .one ∷ x))) (leb (number (z .nine ++ (z .one ∷ x))) 0));
 }
   where
-    value : List ℕ → ℕ → Found ℕ
-    value d k = pick (leb (number d) 0) (got (number d) k) (stop r)
+    value : List ℕ → ℕ → Found Fraction
+    value d k = pick (leb (number d) 0) (got (fractionOf d) k) (stop r)
 
-    ends : (d : List ℕ) (k a n : ℕ) (t : Bool) → pick t (got (number d) k) (stop r) ≡ got a n → n ≡ k
+    ends : (d : List ℕ) (k : ℕ) (a : Fraction) (n : ℕ) (t : Bool) → pick t (got (fractionOf d) k) (stop r) ≡ got a n → n ≡ k
     ends d k a n true e = sym (got-place e)
     ends d k a n false e = absurd (stop≢got e)
 
-    same : (z : FractionCut) (m n : ℕ) → Place (cut fractions z) m n → (v w : ℕ) (t : Bool) → leb v 0 ≡ leb w 0 → leb w 0 ≡ t → Carried (cut fractions z) (pick (leb v 0) (got v m) (stop r)) (pick (leb w 0) (got w n) (stop r))
-    same z m n e v w true h g = let both : v ≡ w = omega (arith, leb-true v 0 (h ∙ g), leb-true w 0 g) in rw (h, g) record { place = m; found = rw both; same = e }
-    same z m n e v w false h g = rw (h, g)
+    same : (z : FractionCut) (m n : ℕ) → Place (cut fractions z) m n → (f : Fraction) (t : Bool) → Carried (cut fractions z) (pick t (got f m) (stop r)) (pick t (got f n) (stop r))
+    same z m n e f true = record { place = m; found = refl; same = e }
+    same z m n e f false = refl
 
 -- ---- what the comma or point with its digits finds, and where it is open
 
@@ -132,12 +139,12 @@ unfolding digits
 digits-through [] x h = refl
 digits-through (b ∷ l) x h = rw (and-first (isDigit b) (allDigits l) h, digits-through l x (and-second (isDigit b) h))
 
-of-run : (d : List ℕ) (f : Found ℕ) → 0 < length d → ofRun d no f ≡ f
+of-run : {A : Type 0} (d : List ℕ) (f : Found A) → 0 < length d → ofRun d no f ≡ f
 of-run [] f h = absurd (omega arith)
 of-run (b ∷ d) f h = refl
 
-module _ (q : Reader ℕ) (l : Leaf q) where
-  abbrev point : Reader ℕ
+module _ {A : Type 0} (q : Reader A) (l : Leaf q) where
+  abbrev point : Reader A
   point = seq (either 44 46) (λ _. q)
 
   point-local : Local point
@@ -160,7 +167,7 @@ module _ (q : Reader ℕ) (l : Leaf q) where
 
   -- ---- eleven bytes
 
-  leaf-ends : (s : List ℕ) (at a n : ℕ) → q .reads s at ≡ got a n → n ≡ at + length (runAt s at)
+  leaf-ends : (s : List ℕ) (at : ℕ) (a : A) (n : ℕ) → q .reads s at ≡ got a n → n ≡ at + length (runAt s at)
   leaf-ends s at a n e = go (runAt s at) (sym (l .reads s at) ∙ e)
     where
       go : (d : List ℕ) → ofRun d no (l .value d (at + length d)) ≡ got a n → n ≡ at + length d
@@ -178,7 +185,7 @@ module _ (q : Reader ℕ) (l : Leaf q) where
       opened true e o = inside (isPoint (getD s at 0)) refl (sym (point-open s at (ltb-true at (length s) e)) ∙ o)
       opened false e o = omega (arith, ltb-false at (length s) e)
 
-      ended : (a n : ℕ) (t : Bool) → isPoint (getD s at 0) ≡ t → pick t (q .reads s (at + 1)) no ≡ got a n → n ≤ at + 11
+      ended : (a : A) (n : ℕ) (t : Bool) → isPoint (getD s at 0) ≡ t → pick t (q .reads s (at + 1)) no ≡ got a n → n ≤ at + 11
       ended a n true e eg = omega (arith, few at e, leaf-ends s (at + 1) a n eg)
       ended a n false e eg = absurd (no≢got eg)
 

@@ -9,7 +9,7 @@ use lib.ListN.{length, getD}
 use lib.Dec.{ltb, leb, eqb}
 use borrow.Author.Tests.{ltb-true, ltb-false, lt-ltb, le-ltb}
 use Rattle.parser.specs.Reading.{Found, no, got, stop, Reader, lit, seq, then, alt, orElse, pick, and}
-use Rattle.parser.specs.Digits.{isDigit, digitsFrom, field, number, runAt, ofRun, runUpTo, nanoseconds, fraction}
+use Rattle.parser.specs.Digits.{isDigit, digitsFrom, field, number, runAt, ofRun, runAs, fractionOf, fraction}
 use Rattle.shortening.proofs.Cuts.{Cut, whole, kept, before, behind, Carried}
 
 -- what is found, so many places further on
@@ -51,15 +51,15 @@ pub field-local : (k lo hi : ℕ) → Local (field k lo hi)
 unfolding field
 field-local k lo hi b s n = digits-local lo hi k 0 b s n
 
-pub run-local : (most r : ℕ) → Local (runUpTo most r)
-unfolding runUpTo
-run-local most r b s n = go (runAt s n)
+pub run-local : {A : Type 0} (f : List ℕ → A) (most r : ℕ) → Local (runAs f most r)
+unfolding runAs
+run-local f most r b s n = go (runAt s n)
   where
-    fits : (d : List ℕ) (t : Bool) → pick t (got (number d) (suc n + length d)) (stop r) ≡ onward 1 (pick t (got (number d) (n + length d)) (stop r))
-    fits d true = ap (got (number d)) (omega arith)
+    fits : (d : List ℕ) (t : Bool) → pick t (got (f d) (suc n + length d)) (stop r) ≡ onward 1 (pick t (got (f d) (n + length d)) (stop r))
+    fits d true = ap (got (f d)) (omega arith)
     fits d false = refl
 
-    go : (d : List ℕ) → ofRun d no (pick (leb (number d) most) (got (number d) (suc n + length d)) (stop r)) ≡ onward 1 (ofRun d no (pick (leb (number d) most) (got (number d) (n + length d)) (stop r)))
+    go : (d : List ℕ) → ofRun d no (pick (leb (number d) most) (got (f d) (suc n + length d)) (stop r)) ≡ onward 1 (ofRun d no (pick (leb (number d) most) (got (f d) (n + length d)) (stop r)))
     go [] = refl
     go (c ∷ d) = fits (c ∷ d) (leb (number (c ∷ d)) most)
 
@@ -67,9 +67,9 @@ pub fraction-local : Local fraction
 unfolding fraction
 fraction-local b s n = go (runAt s n)
   where
-    go : (d : List ℕ) → ofRun d no (got (nanoseconds d) (suc n + length d)) ≡ onward 1 (ofRun d no (got (nanoseconds d) (n + length d)))
+    go : (d : List ℕ) → ofRun d no (got (fractionOf d) (suc n + length d)) ≡ onward 1 (ofRun d no (got (fractionOf d) (n + length d)))
     go [] = refl
-    go (c ∷ d) = ap (got (nanoseconds (c ∷ d))) (omega arith)
+    go (c ∷ d) = ap (got (fractionOf (c ∷ d))) (omega arith)
 
 pub alt-local : {A : Type 0} (p q : Reader A) → Local p → Local q → Local (alt p q)
 unfolding alt

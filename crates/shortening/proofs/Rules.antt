@@ -7,7 +7,7 @@ use Rattle.types.specs.declared.Choices.{Choices}
 use Rattle.types.specs.declared.Edition.{Edition}
 use Rattle.types.specs.declared.Edition.the-variants.{E2004, E2019}
 use Rattle.parser.specs.Reading.{seq}
-use Rattle.parser.specs.Digits.{field, runUpTo, fraction}
+use Rattle.parser.specs.Digits.{field, runAs, fractionOf, fraction}
 use Rattle.parser.specs.Fields.{signed, either, precededBy}
 use Rattle.offset.specs.Rules.{offset, offsetHour, offsetMinute, offsetZulu}
 use Rattle.time.specs.Rules.{hourOf, endsDay, zeroIf, fractionIf, time, baseTime, afterHour, timeOffset, minuteSecondMillisecond, secondMillisecond, millisecond}
@@ -48,7 +48,7 @@ zero-trims true hi = preceded-trims 58 refl (must-trims _ 1 (field-trims 2 0 hi)
 zero-trims false hi = preceded-trims 58 refl (field-trims 2 0 hi)
 
 fraction-trims : (z : Bool) → Trims fractions 11 (seq (either 44 46) (λ _. fractionIf z))
-fraction-trims true = point-trims (runUpTo 0 1) (zeros-leaf 1)
+fraction-trims true = point-trims (runAs fractionOf 0 1) (zeros-leaf 1)
 fraction-trims false = point-trims fraction fraction-leaf
 
 clock-trims : (z : Bool) → Trims fractions 17 (minuteSecondMillisecond z)

@@ -9,7 +9,7 @@ use lib.Seq.{drop-append-le, drop-append-seam, getD-drop}
 use lib.Dec.{ltb, leb}
 use borrow.Author.Tests.{ltb-true, ltb-false, leb-true, leb-false, not-true}
 use Rattle.parser.specs.Reading.{no, got, stop, lit, seq, map, pick, and}
-use Rattle.parser.specs.Digits.{isDigit, digits, number, numberFrom, lowest, runAt, ofRun, atTheEnd, limit, runUpTo, run}
+use Rattle.parser.specs.Digits.{isDigit, digits, number, numberFrom, lowest, runAt, ofRun, atTheEnd, limit, runAs, run}
 use Rattle.parser.proofs.Fields.{true≢false, and-first}
 use Rattle.parser.proofs.Runs.{digits-inside, number-grows}
 use Rattle.parser.proofs.Places.{no≢got, stop≢got, got-place, run-bounded}
@@ -46,13 +46,13 @@ run-before u h n lt y = go (length u) refl h
         rw (drop-append-le n u y (omega arith)) (digits-inside (drop n u) y (ends-other (drop n u) (k - n) (omega (arith, length-drop n u)) last))
 
 run-reads-before : (u : List ℕ) → fresh u (length u) ≡ true → (n : ℕ) → n < length u → (y : List ℕ) → run .reads (u ++ y) n ≡ run .reads u n
-unfolding runUpTo
+unfolding runAs
 run-reads-before u h n lt y = rw (run-before u h n lt y)
 
 -- at the cut a zero more makes the same number
 module _ (z : ZeroCut) where
   run-at-cut : Carried (cut zeros z) (run .reads (whole (cut zeros z)) (length (z .before))) (run .reads (kept (cut zeros z)) (length (z .before)))
-  unfolding runUpTo digits numberFrom
+  unfolding runAs digits numberFrom
   run-at-cut = rw (drop-append-seam (z .before) (48 ∷ z .digit ∷ z .rest), drop-append-seam (z .before) (z .digit ∷ z .rest), z .is) (go (leb (number (z .digit ∷ digits (z .rest))) limit))
     where
       go : (t : Bool) → Carried (cut zeros z) (pick t (got (number (z .digit ∷ digits (z .rest))) (length (z .before) + length (48 ∷ z .digit ∷ digits (z .rest)))) (stop 2)) (pick t (got (number (z .digit ∷ digits (z .rest))) (length (z .before) + length (z .digit ∷ digits (z .rest)))) (stop 2))
@@ -64,10 +64,10 @@ module _ (z : ZeroCut) where
       go false = refl
 
   run-simulates : Simulates (cut zeros z) run
-  run-simulates = simulates-by (cut zeros z) run (run-local limit 2) (λ n le. go n le (ltb n (length (z .before))) refl)
+  run-simulates = simulates-by (cut zeros z) run (run-local number limit 2) (λ n le. go n le (ltb n (length (z .before))) refl)
     where
       go : (n : ℕ) → n ≤ length (z .before) → (t : Bool) → ltb n (length (z .before)) ≡ t → Carried (cut zeros z) (run .reads (whole (cut zeros z)) n) (run .reads (kept (cut zeros z)) n)
-      go n le true e = read-before (cut zeros z) run (run-bounded limit 2) n le (run-reads-before (z .before) (z .starts) n (ltb-true n (length (z .before)) e))
+      go n le true e = read-before (cut zeros z) run (run-bounded number limit 2) n le (run-reads-before (z .before) (z .starts) n (ltb-true n (length (z .before)) e))
       go n le false e = let here : n ≡ length (z .before) = omega (arith, ltb-false n (length (z .before)) e) in rw here run-at-cut
 
 -- ---- at most ten digits
@@ -113,7 +113,7 @@ module _ (s : List ℕ) (at : ℕ) (h : (b : ℕ) (e : List ℕ) → runAt s at 
   run-few (b ∷ c ∷ d) e l = omega (arith, ten-digits b (c ∷ d) (digits-first (drop at s) b (c ∷ d) e) (λ zero. h c d (rw (← zero) e)) l)
 
   run-spans : Spans (λ _. Unit) s 10 at (run .more s at) (run .reads s at)
-  unfolding runUpTo
+  unfolding runAs
   run-spans = record { opens = λ o. opened (atTheEnd s at) refl o; ends = λ a n e. (ends (runAt s at) refl a n e, tt) }
     where
       opened : (t : Bool) → atTheEnd s at ≡ t → and t (leb (number (runAt s at)) limit) ≡ true → length s ≤ at + 10

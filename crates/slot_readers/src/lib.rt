@@ -51,9 +51,9 @@ pub fn parse_offset(s: &[u8], slots: &mut [i64]) -> u32
 
 // Reads the time that the bytes begin with.
 pub fn time(s: &[u8], slots: &mut [i64], choices: Choices) -> u32
-    ensures { λ r. ⌜ BeginsIn 9 3 (time choices) timeSlots (now (s .entry)) (now (slots .entry)) (now (slots .exit)) r ⌝ }
+    ensures { λ r. ⌜ BeginsIn 10 3 (time choices) timeSlots (now (s .entry)) (now (slots .entry)) (now (slots .exit)) r ⌝ }
 {
-    if slots.len() < 9 {
+    if slots.len() < 10 {
         return TOO_FEW;
     }
     let read = times::time(s, choices);
@@ -68,9 +68,9 @@ pub fn time(s: &[u8], slots: &mut [i64], choices: Choices) -> u32
 
 // Reads bytes that are one time from the first to the last.
 pub fn parse_time(s: &[u8], slots: &mut [i64], choices: Choices) -> u32
-    ensures { λ r. ⌜ EndsIn 9 (time choices) timeSlots (now (s .entry)) (now (slots .entry)) (now (slots .exit)) r ⌝ }
+    ensures { λ r. ⌜ EndsIn 10 (time choices) timeSlots (now (s .entry)) (now (slots .entry)) (now (slots .exit)) r ⌝ }
 {
-    if slots.len() < 9 {
+    if slots.len() < 10 {
         return TOO_FEW;
     }
     let answer = times::parse_time(s, choices);
@@ -113,9 +113,9 @@ pub fn parse_date(s: &[u8], slots: &mut [i64]) -> u32
 
 // Reads the date-time that the bytes begin with.
 pub fn datetime(s: &[u8], slots: &mut [i64], choices: Choices) -> u32
-    ensures { λ r. ⌜ BeginsIn 13 10 (dateTime choices) dateTimeSlots (now (s .entry)) (now (slots .entry)) (now (slots .exit)) r ⌝ }
+    ensures { λ r. ⌜ BeginsIn 14 10 (dateTime choices) dateTimeSlots (now (s .entry)) (now (slots .entry)) (now (slots .exit)) r ⌝ }
 {
-    if slots.len() < 13 {
+    if slots.len() < 14 {
         return TOO_FEW;
     }
     let read = datetimes::datetime(s, choices);
@@ -135,9 +135,9 @@ pub fn datetime(s: &[u8], slots: &mut [i64], choices: Choices) -> u32
 
 // Reads bytes that are one date-time from the first to the last.
 pub fn parse_datetime(s: &[u8], slots: &mut [i64], choices: Choices) -> u32
-    ensures { λ r. ⌜ EndsIn 13 (dateTime choices) dateTimeSlots (now (s .entry)) (now (slots .entry)) (now (slots .exit)) r ⌝ }
+    ensures { λ r. ⌜ EndsIn 14 (dateTime choices) dateTimeSlots (now (s .entry)) (now (slots .entry)) (now (slots .exit)) r ⌝ }
 {
-    if slots.len() < 13 {
+    if slots.len() < 14 {
         return TOO_FEW;
     }
     let answer = datetimes::parse_datetime(s, choices);

@@ -34,7 +34,7 @@ count-within {text = text} {given = given} k {a} {old} {w = w} h = go (given a) 
     go true e true f = omega (arith, h .short (readable k a e) (ltb-true (length old) (length (text a)) f) .count)
     go true e false f = let le = ltb-false (length old) (length (text a)) f in omega (arith, h .fits (readable k a e) le .count)
 
-pub dateTime-length : (x : DateTime) → length (dateTimeSlots x) ≡ 11
+pub dateTime-length : (x : DateTime) → length (dateTimeSlots x) ≡ 12
 dateTime-length x = length-append (dateSlots (x .date)) (timeSlots (x .time)) ∙ omega (arith, date-length (x .date), time-length (x .time))
 
 told : {k m : ℕ} {l new : List ℕ} {before after : List ℤ} {w : Written} {r : ℕ} → Leaves k m l new w → Tells w before after r → LeavesIn k m l before after new r

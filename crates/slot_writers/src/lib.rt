@@ -47,9 +47,9 @@ pub fn write_offset(slots: &mut [i64], text: &mut [u8]) -> u32
 
 // Writes the time that the slots hold, for the edition that the caller names.
 pub fn write_time(slots: &mut [i64], text: &mut [u8], choices: Choices) -> u32
-    ensures { λ r. ⌜ WritesFrom 9 (time choices) timeSlots timeSpelling (now (slots .entry)) (now (slots .exit)) (now (text .entry)) (now (text .exit)) r ⌝ }
+    ensures { λ r. ⌜ WritesFrom 10 (time choices) timeSlots timeSpelling (now (slots .entry)) (now (slots .exit)) (now (text .entry)) (now (text .exit)) r ⌝ }
 {
-    if slots.len() < 9 {
+    if slots.len() < 10 {
         return TOO_FEW;
     }
     let held = held::time_of(
@@ -60,6 +60,7 @@ pub fn write_time(slots: &mut [i64], text: &mut [u8], choices: Choices) -> u32
         slots[6],
         slots[7],
         slots[8],
+        slots[9],
     );
     let written = time_writer::write_time(held, choices, text);
     tell(slots, written)
@@ -79,9 +80,9 @@ pub fn write_date(slots: &mut [i64], text: &mut [u8]) -> u32
 
 // Writes the date-time that the slots hold, for the edition that the caller names.
 pub fn write_datetime(slots: &mut [i64], text: &mut [u8], choices: Choices) -> u32
-    ensures { λ r. ⌜ WritesFrom 13 (dateTime choices) dateTimeSlots dateTimeSpelling (now (slots .entry)) (now (slots .exit)) (now (text .entry)) (now (text .exit)) r ⌝ }
+    ensures { λ r. ⌜ WritesFrom 14 (dateTime choices) dateTimeSlots dateTimeSpelling (now (slots .entry)) (now (slots .exit)) (now (text .entry)) (now (text .exit)) r ⌝ }
 {
-    if slots.len() < 13 {
+    if slots.len() < 14 {
         return TOO_FEW;
     }
     let date = held::date_of(slots[2], slots[3], slots[4], slots[5]);
@@ -93,6 +94,7 @@ pub fn write_datetime(slots: &mut [i64], text: &mut [u8], choices: Choices) -> u
         slots[10],
         slots[11],
         slots[12],
+        slots[13],
     );
     let held = DateTime { date, time };
     let written = datetime_writer::write_datetime(held, choices, text);

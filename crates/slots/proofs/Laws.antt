@@ -1,10 +1,10 @@
 -- What is stored is what the answer says, and without room nothing is.
 use Prim.Native.Nat.{ℕ, suc, _+_, _≤_, _<_, _^_}
-use mathlib.Core.List.{List, [], _∷_}
+use mathlib.Core.List.{List, [], _∷_, _++_}
 use mathlib.Core.Path.{_≡_, refl, ap, _∙_}
 use native.Mathlib.Omega.{arith}
 use lib.IntN.{ℤ, pos}
-use lib.ListN.{length}
+use lib.ListN.{length, length-append}
 use lib.Seq.{sets}
 use mir.Syntax.{w64}
 use mir.Val.{SFits, toZ, ofZ}
@@ -15,17 +15,21 @@ use Rattle.types.specs.declared.TimeOffset.the-variants.{Absent, Given}
 use Rattle.types.specs.declared.Date.{Date}
 use Rattle.types.specs.declared.Date.the-variants.{YMD, Week, Ordinal}
 use Rattle.parser.specs.Answer.{Told, recorded}
-use Rattle.slots.specs.Slots.{timeOffsetSlots, timeSlots, dateSlots, answerSlots, over, Answered, PutIn}
+use Rattle.slots.specs.Slots.{timeOffsetSlots, behindSlots, timeSlots, dateSlots, answerSlots, over, Answered, PutIn}
 use Rattle.slots.proofs.Stores.{sets-over}
 
 -- ---- the slots of a kind whose record has cases
 
-pub time-length : (t : Time) → length (timeSlots t) ≡ 7
-time-length t = ap (λ (k : ℕ). suc (suc (suc (suc k)))) (go (t .offset))
-  where
-    go : (o : TimeOffset) → length (timeOffsetSlots o) ≡ 3
-    go Absent = refl
-    go (Given o) = refl
+pub offset-length : (o : TimeOffset) → length (timeOffsetSlots o) ≡ 3
+offset-length Absent = refl
+offset-length (Given o) = refl
+
+pub time-length : (t : Time) → length (timeSlots t) ≡ 8
+time-length t = omega (arith, length-append (timeOffsetSlots (t .offset)) (pos (t .digits) ∷ []), offset-length (t .offset))
+
+-- the digits behind the offset's slots, by what these are
+pub behind : (o : TimeOffset) {l : List ℤ} (digits : ℕ) → timeOffsetSlots o ≡ l → behindSlots o digits ≡ l ++ pos digits ∷ []
+behind o digits e = rw e
 
 pub date-length : (d : Date) → length (dateSlots d) ≡ 4
 date-length (YMD y m d) = refl

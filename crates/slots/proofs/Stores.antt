@@ -51,6 +51,10 @@ pub sets-append : (l : List ℤ) (i : ℕ) (xs ys : List ℤ) → sets l i (xs +
 sets-append l i [] ys = ap (λ (k : ℕ). sets l k ys) (omega arith)
 sets-append l i (x ∷ xs) ys = sets-append (set l i x) (suc i) xs ys ∙ ap (λ (k : ℕ). sets (sets (set l i x) (suc i) xs) k ys) (omega arith)
 
+-- a run of stores by what the slots hold
+pub stored : (l : List ℤ) (i : ℕ) (ys : List ℤ) {xs mid : List ℤ} → mid ≡ sets l i xs → xs ≡ ys → mid ≡ sets l i ys
+stored l i ys e f = e ∙ ap (sets l i) f
+
 -- a run goes on where another ended
 pub goes-on : (l : List ℤ) (i : ℕ) (xs ys : List ℤ) {zs mid after : List ℤ} → zs ≡ ys → mid ≡ sets l i xs → after ≡ sets mid (i + length xs) zs → after ≡ sets l i (xs ++ ys)
 goes-on l i xs ys e j k = k ∙ rw (j, e) (sym (sets-append l i xs ys))

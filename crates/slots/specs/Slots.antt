@@ -28,8 +28,12 @@ abbrev pub timeOffsetSlots : TimeOffset → List ℤ
 timeOffsetSlots Absent = pos 0 ∷ pos 0 ∷ pos 0 ∷ []
 timeOffsetSlots (Given o) = pos 1 ∷ offsetSlots o
 
+-- behind the offset the number of the fraction's digits
+abbrev pub behindSlots : TimeOffset → ℕ → List ℤ
+behindSlots o digits = timeOffsetSlots o ++ pos digits ∷ []
+
 abbrev pub timeSlots : Time → List ℤ
-timeSlots t = pos (t .hour) ∷ pos (t .minute) ∷ pos (t .second) ∷ pos (t .nanosecond) ∷ timeOffsetSlots (t .offset)
+timeSlots t = pos (t .hour) ∷ pos (t .minute) ∷ pos (t .second) ∷ pos (t .nanosecond) ∷ behindSlots (t .offset) (t .digits)
 
 -- the form (0 calendar, 1 week, 2 ordinal), the year, the month or week, the day; an ordinal date has 0 for the month
 abbrev pub dateSlots : Date → List ℤ

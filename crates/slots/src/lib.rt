@@ -148,31 +148,47 @@ fn shift_of(o: TimeOffset) -> Shift
     }
 }
 
-// A time's seven slots, from a place on.
+// An offset's three slots and the digits behind them, from a place on.
+fn put_behind(slots: &mut [i64], at: usize, given: i64, hours: i64, minutes: i64, digits: u32)
+    requires { ⌜ at + 4 ≤ length (now slots) ⌝ }
+    ensures { λ _. ⌜ now (slots .exit) ≡ sets (now (slots .entry)) at (given ∷ hours ∷ minutes ∷ pos digits ∷ []) ⌝ }
+{
+    put_three(slots, at, given, hours, minutes);
+    slots[at + 3] = digits as i64;
+}
+
+// A time's eight slots, from a place on.
 fn put_time_from(slots: &mut [i64], at: usize, t: Time)
-    requires { ⌜ at + 7 ≤ length (now slots) ⌝ }
+    requires { ⌜ at + 8 ≤ length (now slots) ⌝ }
     ensures { λ _. ⌜ now (slots .exit) ≡ sets (now (slots .entry)) at (timeSlots t) ⌝ }
 {
     let o = t.offset;
     let shift = shift_of(o);
     put_four(slots, at, t.hour, t.minute, t.second, t.nanosecond);
-    put_three(slots, at + 4, shift.given, shift.hours, shift.minutes);
+    put_behind(
+        slots,
+        at + 4,
+        shift.given,
+        shift.hours,
+        shift.minutes,
+        t.digits,
+    );
 }
 
 pub fn put_time(slots: &mut [i64], count: usize, verdict: i64, t: Time) -> u32
-    ensures { λ r. ⌜ PutIn 9 timeSlots verdict (recorded t count) (now (slots .entry)) (now (slots .exit)) r ⌝ }
+    ensures { λ r. ⌜ PutIn 10 timeSlots verdict (recorded t count) (now (slots .entry)) (now (slots .exit)) r ⌝ }
 {
-    if slots.len() < 9 {
+    if slots.len() < 10 {
         return TOO_FEW;
     }
     if MOST < count {
         return TOO_FEW;
     }
     let o = t.offset;
-    let shift = shift_of(o);
+    let shift = shift_of(o); // before anything is stored: else it is asked once more at the end
     put_head(slots, count, verdict);
     put_four(slots, 2, t.hour, t.minute, t.second, t.nanosecond);
-    put_three(slots, 6, shift.given, shift.hours, shift.minutes);
+    put_behind(slots, 6, shift.given, shift.hours, shift.minutes, t.digits);
     0
 }
 
@@ -235,9 +251,9 @@ pub fn put_date(slots: &mut [i64], count: usize, verdict: i64, d: Date) -> u32
 }
 
 pub fn put_datetime(slots: &mut [i64], count: usize, verdict: i64, x: DateTime) -> u32
-    ensures { λ r. ⌜ PutIn 13 dateTimeSlots verdict (recorded x count) (now (slots .entry)) (now (slots .exit)) r ⌝ }
+    ensures { λ r. ⌜ PutIn 14 dateTimeSlots verdict (recorded x count) (now (slots .entry)) (now (slots .exit)) r ⌝ }
 {
-    if slots.len() < 13 {
+    if slots.len() < 14 {
         return TOO_FEW;
     }
     if MOST < count {

@@ -9,8 +9,9 @@ use native.Mathlib.Omega.{arith}
 use lib.Dec.{ltb, leb, eqb}
 use lib.ListN.{length, getD}
 use borrow.Author.Tests.{eqb-true}
-use Rattle.parser.specs.Reading.{Found, no, got, stop, Reader, lit, seq, after, opt, lack, alt, must, map, or, and, pick}
-use Rattle.parser.specs.Digits.{isDigit, field, digitsMore, reach, lowest, highest, number, runAt, ofRun, atTheEnd, runUpTo}
+use Rattle.types.specs.declared.Fraction.{Fraction}
+use Rattle.parser.specs.Reading.{Found, no, got, stop, Reader, lit, seq, after, opt, lack, alt, must, map, or, pick}
+use Rattle.parser.specs.Digits.{isDigit, field, digitsMore, reach, lowest, highest, number, runAt, ofRun, atTheEnd, runAs, fractionOf}
 use Rattle.parser.specs.Fields.{minute, second, either, precededBy, orZero}
 use Rattle.parser.proofs.Fields.{true≢false, and-second}
 use Rattle.parser.proofs.Places.{stop≢got, Fails}
@@ -18,7 +19,7 @@ use Rattle.parser.proofs.Hopeful.{AtEnd}
 use Rattle.parser.proofs.Leaves.{field-definite}
 use Rattle.parser.proofs.General.{field-eager}
 use Rattle.parser.proofs.Items.{either-mark}
-use Rattle.parser.proofs.Stricter.{Stricter, same-stricter, must-stricter, zeros-stricter, map-stricter, opt-stricter, seq-stricter, Valued}
+use Rattle.parser.proofs.Stricter.{Stricter, same-stricter, must-stricter, run-stricter, map-stricter, opt-stricter, seq-stricter, Valued}
 use Rattle.parser.proofs.Unstopped.{no≢stop, Awaits, field-unstopped, definite-awaits, must-awaits, preceded-awaits}
 use Rattle.offset.specs.Rules.{offset}
 use Rattle.offset.proofs.Laws.{offset-unstopped}
@@ -35,7 +36,7 @@ after-hour-stricter h =
     seq-stricter (opt-stricter
     (seq-stricter (seq-stricter same-stricter (λ _. zero-stricter minute)) (λ mi.
     seq-stricter (opt-stricter (seq-stricter same-stricter (λ _. zero-stricter second))) (λ se.
-    map-stricter _ (opt-stricter (seq-stricter same-stricter (λ _. zeros-stricter 1))))))) (λ c. same-stricter)
+    map-stricter _ (opt-stricter (seq-stricter same-stricter (λ _. run-stricter 0 1))))))) (λ c. same-stricter)
 
 -- ---- a minute or a second that is open is not read yet
 
@@ -66,7 +67,7 @@ map-valued f p s at v = (f (v .0), (v .1 .0, rw (v .1 .1)))
 abbrev mark : Reader Unit
 mark = either 44 46
 
-abbrev zeros : Reader ℕ
+abbrev zeros : Reader Fraction
 zeros = seq mark (λ _. fractionIf true)
 
 mark-at-end : AtEnd mark
@@ -76,11 +77,11 @@ mark-fails : Fails mark
 mark-fails = either-mark {l = 44 ∷ 46 ∷ []} 44 46 refl refl .item .fails
 
 -- open digits are all 0 so far
-run-open : (s : List ℕ) (at r : ℕ) → runUpTo 0 1 .more s at ≡ true → runUpTo 0 1 .reads s at ≡ stop r → ⊥
-unfolding runUpTo
+run-open : (s : List ℕ) (at r : ℕ) → runAs fractionOf 0 1 .more s at ≡ true → runAs fractionOf 0 1 .reads s at ≡ stop r → ⊥
+unfolding runAs
 run-open s at r h e = go (runAt s at) (and-second (atTheEnd s at) h) e
   where
-    go : (d : List ℕ) → leb (number d) 0 ≡ true → ofRun d no (pick (leb (number d) 0) (got (number d) (at + length d)) (stop 1)) ≡ stop r → ⊥
+    go : (d : List ℕ) → leb (number d) 0 ≡ true → ofRun d no (pick (leb (number d) 0) (got (fractionOf d) (at + length d)) (stop 1)) ≡ stop r → ⊥
     go [] small e = no≢stop e
     go (b ∷ d) small e = stop≢got (sym (rw small at e))
 
@@ -93,7 +94,7 @@ millisecond-valued : (mi se : ℕ) (s : List ℕ) (at : ℕ) → millisecond tru
 unfolding millisecond map opt seq
 millisecond-valued mi se s at h = go (mark .more s at) refl (mark .reads s at) refl h
   where
-    go : (m : Bool) → mark .more s at ≡ m → (f : Found Unit) → mark .reads s at ≡ f → or m (after f (λ _ n. runUpTo 0 1 .more s n)) ≡ true → Valued (millisecond true mi se) s at
+    go : (m : Bool) → mark .more s at ≡ m → (f : Found Unit) → mark .reads s at ≡ f → or m (after f (λ _ n. runAs fractionOf 0 1 .more s n)) ≡ true → Valued (millisecond true mi se) s at
     go true em f ef h = unmarked-valued mi se s at (mark-fails s at (mark-at-end s at em))
     go false em no ef h = absurd (true≢false (sym h))
     go false em (stop r) ef h = absurd (true≢false (sym h))

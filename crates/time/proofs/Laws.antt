@@ -12,7 +12,7 @@ use Rattle.types.specs.declared.Edition.{Edition}
 use Rattle.types.specs.declared.Edition.the-variants.{E2004, E2019}
 use Rattle.parser.specs.Reading.{Found, Says, opt, seq}
 use Rattle.parser.specs.Answer.{begun, Begins, verdictOf}
-use Rattle.parser.specs.Digits.{isDigit, field}
+use Rattle.parser.specs.Digits.{isDigit, field, fractionOf}
 use Rattle.parser.specs.Fields.{orZero}
 use Rattle.parser.proofs.Places.{Bounded, Fails, lit-fails, field-fails, must-fails, seq-skips, opt-skips}
 use Rattle.parser.proofs.Hopeful.{Anything, never-stops}
@@ -61,7 +61,7 @@ unfolding minuteSecondMillisecond secondMillisecond millisecond
 minute-steady =
     seq-steady (zero-steady 59 (field-item {l = bytes} 2 0 59 refl .lawful .steady)) (λ mi.
     seq-steady (opt-steady (zero-steady 60 (field-item {l = bytes} 2 0 60 refl .lawful .steady))) (λ se.
-    map-steady _ (opt-steady (seq-steady (either-mark {l = bytes} 44 46 refl refl .item .lawful .steady) (λ _. run-steady 0 1 (outside-digit bytes))))))
+    map-steady _ (opt-steady (seq-steady (either-mark {l = bytes} 44 46 refl refl .item .lawful .steady) (λ _. run-steady fractionOf 0 1 (outside-digit bytes))))))
 
 minute-fails : Fails (minuteSecondMillisecond true)
 unfolding minuteSecondMillisecond opt seq

@@ -5,18 +5,14 @@ use mathlib.Core.Bool.{Bool, true, false, not}
 use mathlib.Core.Path.{_≡_, refl, sym}
 use lib.Dec.{eqb}
 use Rattle.parser.specs.Reading.{Found, no, got, stop, Says, opt, lit, keepOrStop, and}
-use Rattle.parser.specs.Digits.{field, fraction}
+use Rattle.parser.specs.Digits.{field}
 use Rattle.parser.specs.Fields.{second, either, precededBy}
 use Rattle.parser.proofs.Fields.{true≢false}
-use Rattle.parser.proofs.Places.{fraction-never-stops}
 use Rattle.parser.proofs.Alike.{alike-says, must-behind}
 use Rattle.parser.proofs.Says.{says-must}
 use Rattle.fields.specs.declared.Number.{Number}
 use Rattle.fields.specs.declared.Number.the-variants as number
 use Rattle.fields.specs.Read.{orLeftOut, numberFound, numberMore}
-use Rattle.runs.specs.declared.Run.{Run}
-use Rattle.runs.specs.declared.Run.the-variants as run
-use Rattle.runs.specs.Read.{foundUpTo, runMore}
 use Rattle.time.specs.Rules.{zeroIf}
 use Rattle.time.proofs.EndOfDay.{no-mark}
 
@@ -74,10 +70,3 @@ pub unmarked : (s : List ℕ) (at : ℕ) (x : Number) → Says (precededBy 58 se
 unmarked s at (number.Got v n) h o = absurd (true≢false (sym o))
 unmarked s at number.Wrong h o = absurd (true≢false (sym o))
 unmarked s at number.Cut h o = no-mark s at (sym (h .more))
-
--- no fraction is too big, by whichever number
-pub fraction-says : (s : List ℕ) (at : ℕ) (r : Run) → Says fraction s at (foundUpTo 2 r) (runMore r) → Says fraction s at (foundUpTo 1 r) (runMore r)
-fraction-says s at (run.Got v n m) h = h
-fraction-says s at run.TooBig h = absurd (fraction-never-stops s at 2 (sym (h .found)))
-fraction-says s at run.Wrong h = h
-fraction-says s at run.Cut h = h

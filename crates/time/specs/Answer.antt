@@ -9,13 +9,13 @@ use Rattle.time.specs.declared.TimeFound.{TimeFound}
 use Rattle.time.specs.declared.TimeFound.the-variants as found
 
 abbrev pub clockFound : ClockFound → Found Clock
-clockFound (clock.Got mi se na n m) = got (record { minute = mi; second = se; nanosecond = na }) n
+clockFound (clock.Got mi se f n m) = got (record { minute = mi; second = se; fraction = f }) n
 clockFound clock.Stopped = stop 1
 clockFound clock.Wrong = no
 clockFound clock.Cut = no
 
 abbrev pub clockMore : ClockFound → Bool
-clockMore (clock.Got mi se na n m) = m
+clockMore (clock.Got mi se f n m) = m
 clockMore clock.Stopped = false
 clockMore clock.Wrong = false
 clockMore clock.Cut = true

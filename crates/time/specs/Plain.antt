@@ -4,6 +4,7 @@ use Prim.Native.Nat.{ℕ, _*_}
 use mathlib.Core.List.{List}
 use mathlib.Core.Bool.{true, false}
 use lib.Dec.{ltb}
+use Rattle.types.specs.declared.Fraction.{Fraction}
 use Rattle.types.specs.declared.Time.{Time}
 use Rattle.types.specs.declared.TimeOffset.{TimeOffset}
 use Rattle.types.specs.declared.TimeOffset.the-variants.{Absent, Given}
@@ -16,17 +17,18 @@ use Rattle.looks.specs.declared.PlainOffset.the-variants as offset
 use Rattle.time.specs.declared.plain.PlainTime.{PlainTime}
 use Rattle.time.specs.declared.plain.PlainTime.the-variants as time
 
-abbrev pub timeWith : ℕ → ℕ → ℕ → ℕ → TimeOffset → Time
-timeWith h m x n o = record { hour = h; minute = m; second = x; nanosecond = n; offset = o }
+abbrev pub timeWith : ℕ → ℕ → ℕ → Fraction → TimeOffset → Time
+timeWith h m x f o = record { hour = h; minute = m; second = x; nanosecond = f .nanosecond; digits = f .digits; offset = o }
 
-abbrev pub withOffset : ℕ → ℕ → ℕ → ℕ → ℕ → PlainOffset → PlainTime
-withOffset h m x n at offset.End = time.Got (timeWith h m x n Absent) at true
-withOffset h m x n at (offset.Got o next) = time.Got (timeWith h m x n (Given o)) next false
-withOffset h m x n at offset.Other = time.Other
+abbrev pub withOffset : ℕ → ℕ → ℕ → Fraction → ℕ → PlainOffset → PlainTime
+withOffset h m x f at offset.End = time.Got (timeWith h m x f Absent) at true
+withOffset h m x f at (offset.Got o next) = time.Got (timeWith h m x f (Given o)) next false
+withOffset h m x f at offset.Other = time.Other
 
-unfoldable pub plainTime : List ℕ → ℕ → PlainClock → ℕ → PlainTime
-plainTime s at (clock.Got h m x) ms = pick (ltb 999 ms) time.Other (withOffset h m x (ms * 1000000) at (plainOffset s at))
-plainTime s at clock.Other ms = time.Other
+-- so many milliseconds, written with so many digits
+unfoldable pub plainTime : List ℕ → ℕ → PlainClock → ℕ → ℕ → PlainTime
+plainTime s at (clock.Got h m x) ms d = pick (ltb 999 ms) time.Other (withOffset h m x (record { nanosecond = ms * 1000000; digits = d }) at (plainOffset s at))
+plainTime s at clock.Other ms d = time.Other
 
 abbrev pub firstPlain : PlainTime → PlainTime → PlainTime
 firstPlain (time.Got t n m) y = time.Got t n m

@@ -7,12 +7,13 @@ use lib.Dec.{eqb}
 use Rattle.types.specs.declared.Choices.{Choices}
 use Rattle.types.specs.declared.Edition.{Edition}
 use Rattle.types.specs.declared.Edition.the-variants.{E2004, E2019}
+use Rattle.types.specs.declared.Fraction.{Fraction}
 use Rattle.types.specs.declared.Offset.{Offset}
 use Rattle.types.specs.declared.Time.{Time}
 use Rattle.types.specs.declared.TimeOffset.{TimeOffset}
 use Rattle.types.specs.declared.TimeOffset.the-variants.{Absent, Given}
 use Rattle.parser.specs.Reading.{Reader, seq, opt, must, map}
-use Rattle.parser.specs.Digits.{field, runUpTo, fraction}
+use Rattle.parser.specs.Digits.{field, runAs, fractionOf, fraction}
 use Rattle.parser.specs.Fields.{hour, minute, second, either, precededBy, orZero}
 use Rattle.offset.specs.Rules.{offset}
 
@@ -32,17 +33,25 @@ zeroIf false p = p
 zeroIf true p = must (λ v. eqb v 0) 1 p
 
 -- "and every fraction digit written is 0, dropped digits too"
-abbrev pub fractionIf : Bool → Reader ℕ
+abbrev pub fractionIf : Bool → Reader Fraction
 fractionIf false = fraction
-fractionIf true = runUpTo 0 1
+fractionIf true = runAs fractionOf 0 1
 
 pub record Clock : Type 0 where
   pub minute : ℕ
   pub second : ℕ
-  pub nanosecond : ℕ
+  pub fraction : Fraction
 
-abbrev pub clockOf : ℕ → ℕ → Option ℕ → Clock
-clockOf mi se f = record { minute = mi; second = se; nanosecond = orZero f }
+-- "Absent fields are 0."
+abbrev pub noFraction : Fraction
+noFraction = record { nanosecond = 0; digits = 0 }
+
+abbrev pub orNoFraction : Option Fraction → Fraction
+orNoFraction none = noFraction
+orNoFraction (some f) = f
+
+abbrev pub clockOf : ℕ → ℕ → Option Fraction → Clock
+clockOf mi se f = record { minute = mi; second = se; fraction = orNoFraction f }
 
 -- "optionally {comma or point, one or more digits}". "It counts as a fraction of a second even where no second was written."
 unfoldable pub millisecond : Bool → ℕ → ℕ → Reader Clock
@@ -58,9 +67,8 @@ secondMillisecond z mi = seq (opt (precededBy 58 (zeroIf z second))) (λ se. mil
 unfoldable pub minuteSecondMillisecond : Bool → Reader Clock
 minuteSecondMillisecond z = seq (precededBy 58 (zeroIf z minute)) (secondMillisecond z)
 
--- "Absent fields are 0."
 abbrev pub orMidnight : Option Clock → Clock
-orMidnight none = record { minute = 0; second = 0; nanosecond = 0 }
+orMidnight none = record { minute = 0; second = 0; fraction = noFraction }
 orMidnight (some c) = c
 
 -- "An absent offset is marked so, and isn't zero."
@@ -69,7 +77,14 @@ orAbsent none = Absent
 orAbsent (some o) = Given o
 
 abbrev pub timeOf : ℕ → Clock → Option Offset → Time
-timeOf h c o = record { hour = h; minute = c .minute; second = c .second; nanosecond = c .nanosecond; offset = orAbsent o }
+timeOf h c o = record {
+  hour = h;
+  minute = c .minute;
+  second = c .second;
+  nanosecond = c .fraction .nanosecond;
+  digits = c .fraction .digits;
+  offset = orAbsent o;
+}
 
 -- "then optionally an offset"
 unfoldable pub timeOffset : ℕ → Clock → Reader Time

@@ -1,12 +1,12 @@
 // Times of day (time.rs).
 ghost use mathlib.Core.Path.{_≡_};
 ghost use mathlib.Core.Bool.{true, not};
-ghost use mathlib.Core.Option.{none};
+ghost use mathlib.Core.Option.{some, none};
 ghost use lib.Dec.{eqb};
 ghost use Rattle.parser.specs.Reading.{Says, SaysOn, no, got, and};
 ghost use Rattle.parser.specs.Fields.{either};
 ghost use Rattle.fields.specs.Read.{numberFound, numberMore};
-ghost use Rattle.runs.specs.Read.{foundUpTo, runMore};
+ghost use Rattle.runs.specs.Read.{fractionFound, runMore};
 ghost use Rattle.time.specs.Rules.{hourOf, endsDay, fractionIf, clockOf, timeOf, millisecond, secondMillisecond, minuteSecondMillisecond, timeOffset, afterHour, baseTime, time};
 ghost use Rattle.time.specs.Answer.{clockFound, clockMore, timeFound, timeMore};
 use fields::Number;
@@ -15,6 +15,7 @@ use parser::Mark;
 use runs::Run;
 use types::Choices;
 use types::Edition;
+use types::Fraction;
 use types::Time;
 use types::TimeOffset;
 
@@ -26,7 +27,7 @@ pub enum ClockFound {
     Got {
         minute: u32,
         second: u32,
-        nanosecond: u32,
+        fraction: Fraction,
         next: usize,
         more: bool,
     },
@@ -66,9 +67,9 @@ fn stops(zero: bool, value: u32) -> bool
     zero && value != 0
 }
 
-// The digits behind a comma or point, in nanoseconds. `zero`: all have to be 0.
+// The digits behind a comma or point, a run in nanoseconds. `zero`: all have to be 0.
 fn fraction_at(s: &[u8], at: usize, zero: bool) -> Run
-    ensures { λ r. ⌜ Says (fractionIf zero) (now (s .entry)) at (foundUpTo 1 r) (runMore r) ⌝ }
+    ensures { λ r. ⌜ Says (fractionIf zero) (now (s .entry)) at (fractionFound at r) (runMore r) ⌝ }
 {
     if zero {
         runs::take_zeros(s, at)
@@ -77,7 +78,20 @@ fn fraction_at(s: &[u8], at: usize, zero: bool) -> Run
     }
 }
 
-// A clock without a fraction.
+// A clock with a fraction, and one without.
+fn with_fraction(minute: u32, second: u32, kept: Fraction, next: usize, more: bool) -> ClockFound
+    ensures found { λ r. ⌜ clockFound r ≡ got (clockOf minute second (some kept)) next ⌝ }
+    ensures more { λ r. ⌜ clockMore r ≡ more ⌝ }
+{
+    ClockFound::Got {
+        minute,
+        second,
+        fraction: kept,
+        next,
+        more,
+    }
+}
+
 fn no_fraction(minute: u32, second: u32, next: usize, more: bool) -> ClockFound
     ensures found { λ r. ⌜ clockFound r ≡ got (clockOf minute second none) next ⌝ }
     ensures more { λ r. ⌜ clockMore r ≡ more ⌝ }
@@ -85,7 +99,7 @@ fn no_fraction(minute: u32, second: u32, next: usize, more: bool) -> ClockFound
     ClockFound::Got {
         minute,
         second,
-        nanosecond: 0,
+        fraction: Fraction::NONE,
         next,
         more,
     }
@@ -105,20 +119,20 @@ fn time_millisecond(
 {
     let mark = parser::one_of(s, at, 44, 46);
     match mark {
-        Mark::Got { next } => {
-            let fraction = fraction_at(s, next, zero);
+        Mark::Got { next: from } => {
+            let fraction = fraction_at(s, from, zero);
             match fraction {
                 Run::Got {
                     value,
                     next,
-                    more: digits,
-                } => ClockFound::Got {
+                    more: longer,
+                } => with_fraction(
                     minute,
                     second,
-                    nanosecond: value,
+                    runs::fraction_of(value, next - from),
                     next,
-                    more: parser::either_open(more, digits),
-                },
+                    parser::either_open(more, longer),
+                ),
                 Run::TooBig => ClockFound::Stopped,
                 Run::Wrong => no_fraction(minute, second, at, more),
                 Run::Cut => no_fraction(minute, second, at, true),
@@ -164,12 +178,12 @@ fn time_offset(
     hour: u32,
     minute: u32,
     second: u32,
-    nanosecond: u32,
+    fraction: Fraction,
     more: bool,
 ) -> TimeFound
-    ensures { λ r. ⌜ SaysOn more (timeOffset hour (record { minute = minute; second = second; nanosecond = nanosecond })) (now (s .entry)) at (timeFound r) (timeMore r) ⌝ }
+    ensures { λ r. ⌜ SaysOn more (timeOffset hour (record { minute = minute; second = second; fraction = fraction })) (now (s .entry)) at (timeFound r) (timeMore r) ⌝ }
 {
-    let bare = no_offset(hour, minute, second, nanosecond, at, more);
+    let bare = no_offset(hour, minute, second, fraction, at, more);
     let found = offset::offset_at(s, at);
     match found {
         OffsetFound::Got {
@@ -181,14 +195,15 @@ fn time_offset(
                 hour,
                 minute,
                 second,
-                nanosecond,
+                nanosecond: fraction.nanosecond,
+                digits: fraction.digits,
                 offset: TimeOffset::Given(value),
             },
             next,
             more: parser::either_open(more, longer),
         },
         OffsetFound::Wrong => bare,
-        OffsetFound::Cut => no_offset(hour, minute, second, nanosecond, at, true),
+        OffsetFound::Cut => no_offset(hour, minute, second, fraction, at, true),
     }
 }
 
@@ -197,11 +212,11 @@ fn no_offset(
     hour: u32,
     minute: u32,
     second: u32,
-    nanosecond: u32,
+    fraction: Fraction,
     next: usize,
     more: bool,
 ) -> TimeFound
-    ensures found { λ r. ⌜ timeFound r ≡ got (timeOf hour (record { minute = minute; second = second; nanosecond = nanosecond }) none) next ⌝ }
+    ensures found { λ r. ⌜ timeFound r ≡ got (timeOf hour (record { minute = minute; second = second; fraction = fraction }) none) next ⌝ }
     ensures more { λ r. ⌜ timeMore r ≡ more ⌝ }
 {
     TimeFound::Got {
@@ -209,7 +224,8 @@ fn no_offset(
             hour,
             minute,
             second,
-            nanosecond,
+            nanosecond: fraction.nanosecond,
+            digits: fraction.digits,
             offset: TimeOffset::Absent, // which is not zero
         },
         next,
@@ -226,13 +242,13 @@ fn time_after_hour(s: &[u8], at: usize, hour: u32, zero: bool) -> TimeFound
         ClockFound::Got {
             minute,
             second,
-            nanosecond,
+            fraction,
             next,
             more,
-        } => time_offset(s, next, hour, minute, second, nanosecond, more),
+        } => time_offset(s, next, hour, minute, second, fraction, more),
         ClockFound::Stopped => TimeFound::Stopped,
-        ClockFound::Wrong => time_offset(s, at, hour, 0, 0, 0, false),
-        ClockFound::Cut => time_offset(s, at, hour, 0, 0, 0, true),
+        ClockFound::Wrong => time_offset(s, at, hour, 0, 0, Fraction::NONE, false),
+        ClockFound::Cut => time_offset(s, at, hour, 0, 0, Fraction::NONE, true),
     }
 }
 

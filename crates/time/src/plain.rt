@@ -9,6 +9,7 @@ use crate::time_at;
 use looks::PlainClock;
 use looks::PlainOffset;
 use types::Choices;
+use types::Fraction;
 use types::Time;
 use types::TimeOffset;
 
@@ -22,9 +23,15 @@ pub enum PlainTime {
     Other,
 }
 
-// A clock and milliseconds with what stands behind them at `at`: the end of the input, or an offset.
-pub fn plain_time(s: &[u8], at: usize, clock: PlainClock, millisecond: u32) -> PlainTime
-    ensures { λ r. ⌜ r ≡ plainTime (now (s .entry)) at clock millisecond ⌝ }
+// A clock and milliseconds of so many digits, with what stands behind them at `at`: the end of the input, or an offset.
+pub fn plain_time(
+    s: &[u8],
+    at: usize,
+    clock: PlainClock,
+    millisecond: u32,
+    digits: u32,
+) -> PlainTime
+    ensures { λ r. ⌜ r ≡ plainTime (now (s .entry)) at clock millisecond digits ⌝ }
 {
     match clock {
         PlainClock::Got {
@@ -36,7 +43,11 @@ pub fn plain_time(s: &[u8], at: usize, clock: PlainClock, millisecond: u32) -> P
                 return PlainTime::Other;
             }
             let offset = looks::plain_offset(s, at);
-            with_offset(hour, minute, second, millisecond * 1000000, at, offset)
+            let fraction = Fraction {
+                nanosecond: millisecond * 1000000,
+                digits,
+            };
+            with_offset(hour, minute, second, fraction, at, offset)
         }
         PlainClock::Other => PlainTime::Other,
     }
@@ -46,11 +57,11 @@ fn with_offset(
     hour: u32,
     minute: u32,
     second: u32,
-    nanosecond: u32,
+    fraction: Fraction,
     at: usize,
     offset: PlainOffset,
 ) -> PlainTime
-    ensures { λ r. ⌜ r ≡ withOffset hour minute second nanosecond at offset ⌝ }
+    ensures { λ r. ⌜ r ≡ withOffset hour minute second fraction at offset ⌝ }
 {
     match offset {
         PlainOffset::End => PlainTime::Got {
@@ -58,7 +69,8 @@ fn with_offset(
                 hour,
                 minute,
                 second,
-                nanosecond,
+                nanosecond: fraction.nanosecond,
+                digits: fraction.digits,
                 offset: TimeOffset::Absent, // nothing stands there
             },
             next: at,
@@ -69,7 +81,8 @@ fn with_offset(
                 hour,
                 minute,
                 second,
-                nanosecond,
+                nanosecond: fraction.nanosecond,
+                digits: fraction.digits,
                 offset: TimeOffset::Given(value),
             },
             next,
@@ -94,8 +107,8 @@ pub fn time_begun(s: &[u8], choices: Choices) -> TimeFound
     ensures { λ r. ⌜ Says (time choices) (now (s .entry)) 0 (timeFound r) (timeMore r) ⌝ }
 {
     let clock = looks::plain_clock(s, 0);
-    let exact = plain_time(s, 12, clock, looks::plain_millisecond(s, 8));
-    let plain = first_plain(exact, plain_time(s, 8, clock, 0));
+    let exact = plain_time(s, 12, clock, looks::plain_millisecond(s, 8), 3);
+    let plain = first_plain(exact, plain_time(s, 8, clock, 0, 0));
     match plain {
         PlainTime::Got { value, next, more } => TimeFound::Got { value, next, more },
         PlainTime::Other => {

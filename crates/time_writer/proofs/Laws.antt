@@ -1,52 +1,55 @@
 -- Times are read back from their spelling, whole; and only times within the ranges are read from anything. One argument for the editions:
 -- both ask whether the hour ends the day.
-use Prim.Native.Nat.{ℕ, _+_, _/_, _%_, _≤_, _<_}
+use Prim.Native.Nat.{ℕ, _+_, _-_, _/_, _%_, _^_, _≤_, _<_}
 use mathlib.Core.List.{List, [], _∷_, _++_, append-assoc, append-nil}
 use mathlib.Core.Bool.{Bool, true, false}
 use mathlib.Core.Option.{Option, some, none}
 use mathlib.Core.Path.{_≡_, refl, sym}
 use native.Mathlib.Omega.{arith}
+use native.Mathlib.Nat.{zero-div}
 use borrow.Author.Tests.{le-leb, leb-true, eq-eqb, eqb-true, eqb-false, ne-eqb}
 use lib.Dec.{leb, eqb}
 use lib.IntN.{natAbs}
-use lib.ListN.{length, drop}
+use lib.ListN.{length, take}
 use Rattle.types.specs.declared.Choices.{Choices}
 use Rattle.types.specs.declared.Edition.{Edition}
 use Rattle.types.specs.declared.Edition.the-variants.{E2004, E2019}
+use Rattle.types.specs.declared.Fraction.{Fraction}
 use Rattle.types.specs.declared.Offset.{Offset}
 use Rattle.types.specs.declared.Time.{Time}
 use Rattle.types.specs.declared.TimeOffset.{TimeOffset}
 use Rattle.types.specs.declared.TimeOffset.the-variants.{Absent, Given}
-use Rattle.parser.specs.Reading.{no, got, lit, seq, opt, and, pick}
-use Rattle.parser.specs.Digits.{isDigit, field, digits, ofRun, nanoseconds, fraction}
-use Rattle.parser.specs.Fields.{either, precededBy, orZero}
+use Rattle.parser.specs.Reading.{lit, seq, opt, pick}
+use Rattle.parser.specs.Digits.{isDigit, field, number, fractionOf}
+use Rattle.parser.specs.Fields.{either, precededBy}
 use Rattle.parser.proofs.Fields.{and-first, and-second}
-use Rattle.parser.proofs.Places.{no≢got, got-value}
 use Rattle.parser.proofs.Leaves.{From}
-use Rattle.runs.proofs.Nanoseconds.{nanoseconds-small}
 use Rattle.offset.specs.Rules.{offset, offsetHour, offsetZulu}
-use Rattle.time.specs.Rules.{hourOf, endsDay, zeroIf, fractionIf, Clock, clockOf, millisecond, secondMillisecond, minuteSecondMillisecond, orMidnight, orAbsent, timeOf, timeOffset, afterHour, baseTime, time}
-use Rattle.writing.specs.Spelling.{padded, signByte, isMinus, isZulu, shiftSpelling, offsetSpelling, clockSpelling, withoutTrailingZeros, fractionSpelling, timeOffsetSpelling, timeSpelling}
+use Rattle.time.specs.Rules.{hourOf, endsDay, zeroIf, fractionIf, noFraction, orNoFraction, Clock, clockOf, millisecond, secondMillisecond, minuteSecondMillisecond, orMidnight, orAbsent, timeOf, timeOffset, afterHour, baseTime, time}
+use Rattle.writing.specs.Spelling.{padded, signByte, isMinus, isZulu, shiftSpelling, offsetSpelling, clockSpelling, fractionSpelling, timeOffsetSpelling, timeSpelling}
 use Rattle.writing.proofs.Texts.{ReadAs, Refuses, lit-reads, lit-refuses, lit-refuses-end, seq-reads, seq-refuses, map-reads, map-refuses, must-reads, opt-reads, opt-lacks, alt-second, alt-refuses, whole}
-use Rattle.writing.proofs.Digits.{begins, field-reads, fraction-reads}
-use Rattle.writing.proofs.Yields.{Yields, OrLeftOut, seq-yields, map-yields, opt-yields, must-yields, preceded-yields, field-yields, up-to-yields, anything, absent-within}
+use Rattle.writing.proofs.Digits.{AllDigits, begins, field-reads, run-reads, fraction-reads}
+use Rattle.writing.proofs.Yields.{Yields, OrLeftOut, seq-yields, map-yields, opt-yields, must-yields, preceded-yields, field-yields, run-as-yields, fraction-yields, anything, absent-within}
 use Rattle.writing.proofs.Laws.{Spells}
 use Rattle.offset_writer.specs.Ranges.{offsetGiven}
 use Rattle.offset_writer.proofs.Laws.{offset-reads, offset-yields}
-use Rattle.time_writer.specs.Ranges.{timeOffsetGiven, lastHour, upTo, clockGiven, timeGiven}
-use Rattle.time_writer.proofs.Zeros.{fraction-back, some-digit}
+use Rattle.time_writer.specs.Ranges.{timeOffsetGiven, lastHour, upTo, fractionGiven, clockGiven, timeGiven}
+use Rattle.time_writer.proofs.Nine.{FractionWithin, fraction-back, digits-within, zeros-within}
 
 -- ---- the ranges, by the hour
 
 -- what stands behind an hour
-pub record Within (z : Bool) (m s n : ℕ) : Type 0 where
+pub record Within (z : Bool) (m s : ℕ) (f : Fraction) : Type 0 where
   pub minute : m ≤ upTo z 59
   pub second : s ≤ upTo z 60
-  pub nanosecond : n ≤ upTo z 999999999
+  pub fraction : FractionWithin z f
+
+abbrev fractionIn : Time → Fraction
+fractionIn t = record { nanosecond = t .nanosecond; digits = t .digits }
 
 pub record TimeWithin (c : Choices) (t : Time) : Type 0 where
   pub hour : t .hour ≤ lastHour (c .edition)
-  pub behind : Within (endsDay (c .edition) (t .hour)) (t .minute) (t .second) (t .nanosecond)
+  pub behind : Within (endsDay (c .edition) (t .hour)) (t .minute) (t .second) (fractionIn t)
   pub offset : timeOffsetGiven (t .offset) ≡ true
 
 pub time-within : (c : Choices) (t : Time) → timeGiven c t ≡ true → TimeWithin c t
@@ -57,12 +60,16 @@ time-within c t e =
     let f = and-first (clockGiven (c .edition) t) _ e in
     let g = and-second (leb (t .hour) last) f in
     let h = and-second (leb (t .minute) (upTo z 59)) g in
+    let i = and-second (leb (t .second) (upTo z 60)) h in
     record {
       hour = leb-true (t .hour) last (and-first (leb (t .hour) last) _ f);
       behind = record {
         minute = leb-true (t .minute) (upTo z 59) (and-first (leb (t .minute) (upTo z 59)) _ g);
         second = leb-true (t .second) (upTo z 60) (and-first (leb (t .second) (upTo z 60)) _ h);
-        nanosecond = leb-true (t .nanosecond) (upTo z 999999999) (and-second (leb (t .second) (upTo z 60)) h);
+        fraction = record {
+          nanosecond = leb-true (t .nanosecond) (upTo z 999999999) (and-first (leb (t .nanosecond) (upTo z 999999999)) _ i);
+          fits = and-second (leb (t .nanosecond) (upTo z 999999999)) i;
+        };
       };
       offset = and-second (clockGiven (c .edition) t) e;
     }
@@ -72,9 +79,21 @@ pub last-small : (e : Edition) → lastHour e ≤ 24
 last-small E2019 = omega arith
 last-small E2004 = omega arith
 
-pub within-day : (z : Bool) {m s n : ℕ} → Within z m s n → Within false m s n
+day : (z : Bool) {n : ℕ} → n ≤ upTo z 999999999 → n ≤ 999999999
+day false h = h
+day true h = omega arith
+
+pub within-day : (z : Bool) {m s : ℕ} {f : Fraction} → Within z m s f → Within false m s f
 within-day false w = w
-within-day true w = record { minute = omega arith; second = omega arith; nanosecond = omega arith }
+within-day true w = record { minute = omega (arith, w .minute); second = omega (arith, w .second); fraction = record { nanosecond = omega (arith, w .fraction .nanosecond); fits = w .fraction .fits } }
+
+-- no digits are no nanoseconds
+no-digits : (f : Fraction) → f .nanosecond ≤ 999999999 → fractionGiven (f .digits) (f .nanosecond) ≡ true → f .digits ≡ 0 → noFraction ≡ f
+unfolding fractionGiven
+no-digits f h e z =
+    let fits : eqb (f .nanosecond % 1000000000) 0 ≡ true = and-second (leb 0 9) (rw z at e) in
+    let none : f .nanosecond ≡ 0 = omega (arith, eqb-true (f .nanosecond % 1000000000) 0 fits) in
+    rw (none, z)
 
 -- ---- the offset at the end of a time, and what may stand behind a second
 
@@ -104,33 +123,42 @@ offset-refuses-end : Refuses offset []
 unfolding offset offsetHour offsetZulu
 offset-refuses-end = alt-refuses (seq-refuses _ (alt-refuses (map-refuses _ (lit-refuses-end 45)) (map-refuses _ (lit-refuses-end 43)))) (map-refuses _ (lit-refuses-end 90))
 
-end-reads : (h : ℕ) (c : Clock) (o : TimeOffset) → timeOffsetGiven o ≡ true → ReadAs (timeOffset h c) (timeOffsetSpelling o) [] (record { hour = h; minute = c .minute; second = c .second; nanosecond = c .nanosecond; offset = o })
+end-reads : (h : ℕ) (c : Clock) (o : TimeOffset) → timeOffsetGiven o ≡ true → ReadAs (timeOffset h c) (timeOffsetSpelling o) [] (record { hour = h; minute = c .minute; second = c .second; nanosecond = c .fraction .nanosecond; digits = c .fraction .digits; offset = o })
 unfolding timeOffset timeOffsetSpelling timeOffsetGiven
 end-reads h c Absent e = map-reads _ (opt-lacks offset-refuses-end)
 end-reads h c (Given o) e = map-reads _ (opt-reads (offset-reads o [] e))
 
--- ---- the fraction, and nothing where it is 0
+-- ---- the fraction, and nothing where it has no digits
 
-record Fractional (z : Bool) (n : ℕ) (x : List ℕ) : Type 0 where
-  value : Option ℕ
-  is : orZero value ≡ n
-  reads : ReadAs (opt (seq (either 44 46) (λ _. fractionIf z))) (fractionSpelling n) x value
+record Fractional (z : Bool) (f : Fraction) (x : List ℕ) : Type 0 where
+  value : Option Fraction
+  is : orNoFraction value ≡ f
+  reads : ReadAs (opt (seq (either 44 46) (λ _. fractionIf z))) (fractionSpelling (f .digits) (f .nanosecond)) x value
 
-fraction-is : (z : Bool) (n : ℕ) (x : List ℕ) → n ≤ upTo z 999999999 → Behind x → Fractional z n x
+-- digits are read by either leaf
+digits-read : (z : Bool) {d x : List ℕ} → number d ≤ upTo z (number d) → AllDigits d → 0 < length d → begins x ≡ false → ReadAs (fractionIf z) d x (fractionOf d)
+digits-read false l h s o = fraction-reads h s o
+digits-read true l h s o = run-reads fractionOf 0 1 h s o l
+
+front-within : (z : Bool) (n u : ℕ) → n ≤ upTo z 999999999 → n / u ≤ upTo z (n / u)
+front-within false n u h = omega arith
+front-within true n u h = let none : n ≡ 0 = omega arith in rw none (omega (arith, zero-div u))
+
+fraction-is : (z : Bool) (f : Fraction) (x : List ℕ) → FractionWithin z f → Behind x → Fractional z f x
 unfolding fractionSpelling
-fraction-is z n x h b = go z h (eqb n 0) refl
+fraction-is z f x w b = go (eqb (f .digits) 0) refl
   where
-    go : (z : Bool) → n ≤ upTo z 999999999 → (t : Bool) → eqb n 0 ≡ t → Fractional z n x
-    go z h true e = record { value = none; is = sym (eqb-true n 0 e); reads = rw e (opt-lacks (seq-refuses _ (alt-refuses (b .no-comma) (b .no-point)))) }
-    go true h false e = absurd (eqb-false n 0 e (omega arith))
-    go false h false e =
-        let d = withoutTrailingZeros (padded 9 n) in
-        let f = fraction-back n h in
-        let above = eqb-false n 0 e in
+    go : (t : Bool) → eqb (f .digits) 0 ≡ t → Fractional z f x
+    go true e = record { value = none; is = no-digits f (day z (w .nanosecond)) (w .fits) (eqb-true (f .digits) 0 e); reads = rw e (opt-lacks (seq-refuses _ (alt-refuses (b .no-comma) (b .no-point)))) }
+    go false e =
+        let k = f .digits in
+        let n = f .nanosecond in
+        let d = fraction-back n k (day z (w .nanosecond)) (w .fits) in
+        let some-digit : 0 < k = let h = eqb-false k 0 e in omega arith in
         record {
-          value = some (nanoseconds d);
-          is = f .number;
-          reads = rw e (opt-reads (seq-reads _ (alt-second (lit-refuses 44 refl) (lit-reads 46 _)) (fraction-reads (f .digits) (some-digit d f (omega arith)) (b .no-digit))));
+          value = some (fractionOf (take k (padded 9 n)));
+          is = d .fraction;
+          reads = rw e (opt-reads (seq-reads _ (alt-second (lit-refuses 44 refl) (lit-reads 46 _)) (digits-read z (rw (d .number) (front-within z n (10 ^ (9 - k)) (w .nanosecond))) (d .digits) (omega (arith, d .size)) (b .no-digit))));
         }
 
 -- ---- all of it
@@ -150,11 +178,11 @@ zero-reads true hi v x h k = must-reads _ 1 (eq-eqb v 0 (omega arith)) (field-re
 colon-reads : (z : Bool) (hi v : ℕ) (x : List ℕ) → v ≤ upTo z hi → hi ≤ 99 → ReadAs (precededBy 58 (zeroIf z (field 2 0 hi))) (58 ∷ padded 2 v) x v
 colon-reads z hi v x h k = seq-reads _ (opt-reads (lit-reads 58 _)) (zero-reads z hi v x h k)
 
-clock-reads : (z : Bool) (m s n : ℕ) (x : List ℕ) → Within z m s n → Behind x → ReadAs (minuteSecondMillisecond z) ((58 ∷ padded 2 m) ++ ((58 ∷ padded 2 s) ++ fractionSpelling n)) x (record { minute = m; second = s; nanosecond = n })
+clock-reads : (z : Bool) (m s : ℕ) (k : Fraction) (x : List ℕ) → Within z m s k → Behind x → ReadAs (minuteSecondMillisecond z) ((58 ∷ padded 2 m) ++ ((58 ∷ padded 2 s) ++ fractionSpelling (k .digits) (k .nanosecond))) x (record { minute = m; second = s; fraction = k })
 unfolding minuteSecondMillisecond secondMillisecond millisecond
-clock-reads z m s n x w b =
-    let f = fraction-is z n x (w .nanosecond) b in
-    let whole : clockOf m s (f .value) ≡ record { minute = m; second = s; nanosecond = n } = rw (f .is) in
+clock-reads z m s k x w b =
+    let f = fraction-is z k x (w .fraction) b in
+    let whole : clockOf m s (f .value) ≡ record { minute = m; second = s; fraction = k } = rw (f .is) in
     rw (← whole)
     (seq-reads _ (colon-reads z 59 m _ (w .minute) (omega arith)) (seq-reads _ (opt-reads (colon-reads z 60 s _ (w .second) (omega arith))) (map-reads (clockOf m s) (f .reads))))
 
@@ -163,10 +191,10 @@ unfolding baseTime afterHour timeSpelling clockSpelling
 base-reads c t e =
     let w = time-within c t e in
     let o = timeOffsetSpelling (t .offset) in
-    let same : timeSpelling t ≡ padded 2 (t .hour) ++ (((58 ∷ padded 2 (t .minute)) ++ ((58 ∷ padded 2 (t .second)) ++ fractionSpelling (t .nanosecond))) ++ o) = simp append-assoc in
+    let same : timeSpelling t ≡ padded 2 (t .hour) ++ (((58 ∷ padded 2 (t .minute)) ++ ((58 ∷ padded 2 (t .second)) ++ fractionSpelling (t .digits) (t .nanosecond))) ++ o) = simp append-assoc in
     rw same
     (seq-reads _ (hour-reads (c .edition) (t .hour) _ (w .hour))
-    (seq-reads _ (opt-reads (clock-reads _ (t .minute) (t .second) (t .nanosecond) _ (w .behind) (rw (append-nil o) (offset-behind (t .offset))))) (end-reads (t .hour) _ (t .offset) (w .offset))))
+    (seq-reads _ (opt-reads (clock-reads _ (t .minute) (t .second) (fractionIn t) _ (w .behind) (rw (append-nil o) (offset-behind (t .offset))))) (end-reads (t .hour) _ (t .offset) (w .offset))))
 
 -- no `T` stands in front of the hour
 no-t : (t : Time) → Refuses (lit 84) (timeSpelling t ++ [])
@@ -186,40 +214,36 @@ zero-yields : (z : Bool) (hi : ℕ) → Yields (From 0 (upTo z hi)) (zeroIf z (f
 zero-yields false hi = field-yields 2 0 hi
 zero-yields true hi = must-yields (λ v. eqb v 0) (λ v f e. (omega arith, omega (arith, eqb-true v 0 e))) 1 (field-yields 2 0 hi)
 
-nanoseconds-yields : Yields (λ n. n ≤ 999999999) fraction
-unfolding fraction
-nanoseconds-yields = record { fact = λ s at a n e. go (digits (drop at s)) at a n (nanoseconds-small (drop at s)) e }
-  where
-    go : (d : List ℕ) (at a n : ℕ) → nanoseconds d < 1000000000 → ofRun d no (got (nanoseconds d) (at + length d)) ≡ got a n → a ≤ 999999999
-    go [] at a n h e = absurd (no≢got e)
-    go (b ∷ d) at a n h e = let same : nanoseconds (b ∷ d) ≡ a = got-value e in omega arith
+digits-yield : (z : Bool) → Yields (FractionWithin z) (fractionIf z)
+digits-yield false = fraction-yields digits-within
+digits-yield true = run-as-yields fractionOf 0 1 zeros-within
 
-fraction-yields : (z : Bool) → Yields (λ n. n ≤ upTo z 999999999) (fractionIf z)
-fraction-yields false = nanoseconds-yields
-fraction-yields true = up-to-yields 0 1
+no-fraction-within : (z : Bool) → FractionWithin z noFraction
+unfolding fractionGiven
+no-fraction-within z = record { nanosecond = omega arith; fits = refl }
 
 abbrev ClockWithin : Bool → Clock → Type 0
-ClockWithin z c = Within z (c .minute) (c .second) (c .nanosecond)
+ClockWithin z c = Within z (c .minute) (c .second) (c .fraction)
 
 clock-yields : (z : Bool) → Yields (ClockWithin z) (minuteSecondMillisecond z)
 unfolding minuteSecondMillisecond secondMillisecond millisecond
 clock-yields z =
     seq-yields _ (preceded-yields 58 (zero-yields z 59)) (λ m fm. seq-yields _ (opt-yields (preceded-yields 58 (zero-yields z 60))) (λ s fs.
-    map-yields _ (λ f ff. record { minute = fm .1; second = absent-within (upTo z 60) s fs; nanosecond = absent f ff }) (opt-yields (seq-yields _ (anything (either 44 46)) (λ u y. fraction-yields z)))))
+    map-yields _ (λ f ff. record { minute = fm .1; second = absent-within (upTo z 60) s fs; fraction = absent f ff }) (opt-yields (seq-yields _ (anything (either 44 46)) (λ u y. digits-yield z)))))
   where
-    absent : (f : Option ℕ) → OrLeftOut (λ n. n ≤ upTo z 999999999) f → orZero f ≤ upTo z 999999999
-    absent none h = omega arith
-    absent (some n) h = h
+    absent : (f : Option Fraction) → OrLeftOut (FractionWithin z) f → FractionWithin z (orNoFraction f)
+    absent none h = no-fraction-within z
+    absent (some f) h = h
 
 or-midnight : (z : Bool) (c : Option Clock) → OrLeftOut (ClockWithin z) c → ClockWithin z (orMidnight c)
-or-midnight z none h = record { minute = omega arith; second = omega arith; nanosecond = omega arith }
+or-midnight z none h = record { minute = omega arith; second = omega arith; fraction = no-fraction-within z }
 or-midnight z (some c) h = h
 
 given-of : (k : Choices) (h : ℕ) (c : Clock) (o : Option Offset) → h ≤ lastHour (k .edition) → ClockWithin (endsDay (k .edition) h) c → OrLeftOut (λ o. offsetGiven o ≡ true) o → timeGiven k (timeOf h c o) ≡ true
 unfolding timeGiven clockGiven timeOffsetGiven
 given-of k h c o hh w g =
     let z = endsDay (k .edition) h in
-    rw (le-leb h (lastHour (k .edition)) hh, le-leb (c .minute) (upTo z 59) (w .minute), le-leb (c .second) (upTo z 60) (w .second), le-leb (c .nanosecond) (upTo z 999999999) (w .nanosecond)) (last o g)
+    rw (le-leb h (lastHour (k .edition)) hh, le-leb (c .minute) (upTo z 59) (w .minute), le-leb (c .second) (upTo z 60) (w .second), le-leb (c .fraction .nanosecond) (upTo z 999999999) (w .fraction .nanosecond), w .fraction .fits) (last o g)
   where
     last : (o : Option Offset) → OrLeftOut (λ o. offsetGiven o ≡ true) o → timeOffsetGiven (orAbsent o) ≡ true
     last none g = refl

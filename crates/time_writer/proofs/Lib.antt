@@ -1,3 +1,3 @@
-pub mod Zeros
+pub mod Nine
 pub mod Lengths
 pub mod Laws

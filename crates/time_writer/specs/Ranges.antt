@@ -1,8 +1,7 @@
 -- The times that the code writes, by the edition. `proofs/Laws.antt` shows that they are those that some reader of that edition gives, no more
 -- and no fewer.
-use Prim.Native.Nat.{ℕ, _-_, _/_, _%_, _^_, _≤_}
+use Prim.Native.Nat.{ℕ, _-_, _%_, _^_}
 use mathlib.Core.Bool.{Bool, true, false}
-use mathlib.Core.Path.{_≡_}
 use lib.Dec.{leb, eqb}
 use Rattle.types.specs.declared.Choices.{Choices}
 use Rattle.types.specs.declared.Edition.{Edition}
@@ -10,9 +9,8 @@ use Rattle.types.specs.declared.Edition.the-variants.{E2004, E2019}
 use Rattle.types.specs.declared.Time.{Time}
 use Rattle.types.specs.declared.TimeOffset.{TimeOffset}
 use Rattle.types.specs.declared.TimeOffset.the-variants.{Absent, Given}
-use Rattle.parser.specs.Reading.{and, pick}
+use Rattle.parser.specs.Reading.{and}
 use Rattle.time.specs.Rules.{endsDay}
-use Rattle.writing.specs.Spelling.{padded, withoutTrailingZeros}
 use Rattle.offset_writer.specs.Ranges.{offsetGiven}
 
 unfoldable pub timeOffsetGiven : TimeOffset → Bool
@@ -30,9 +28,14 @@ abbrev pub upTo : Bool → ℕ → ℕ
 upTo false hi = hi
 upTo true hi = 0
 
+-- "4 also for a nanosecond that doesn't fit its digit count": of its nine digits those behind that many are 0; and no count is above 9
+unfoldable pub fractionGiven : ℕ → ℕ → Bool
+fractionGiven k n = and (leb k 9) (eqb (n % 10 ^ (9 - k)) 0)
+
 -- the fields between the hour and the offset, by the greatest number of each
 abbrev pub behindGiven : ℕ → ℕ → ℕ → Time → Bool
-behindGiven mi se na t = and (leb (t .minute) mi) (and (leb (t .second) se) (leb (t .nanosecond) na))
+behindGiven mi se na t =
+    and (leb (t .minute) mi) (and (leb (t .second) se) (and (leb (t .nanosecond) na) (fractionGiven (t .digits) (t .nanosecond))))
 
 -- the fields but the offset
 unfoldable pub clockGiven : Edition → Time → Bool
@@ -42,12 +45,3 @@ clockGiven e t =
 
 unfoldable pub timeGiven : Choices → Time → Bool
 timeGiven c t = and (clockGiven (c .edition) t) (timeOffsetGiven (t .offset))
-
--- the digits of three that are left without trailing zeros
-abbrev pub tailWidth : ℕ → ℕ
-tailWidth n = pick (eqb (n % 10) 0) (pick (eqb (n % 100) 0) 1 2) 3
-
--- the first w of nine digits are those without trailing zeros
-pub record FractionWidth (n w : ℕ) : Type 0 where
-  pub few : w ≤ 9
-  pub digits : withoutTrailingZeros (padded 9 n) ≡ padded w (n / 10 ^ (9 - w))

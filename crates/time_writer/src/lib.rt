@@ -1,12 +1,13 @@
-// The writer of times: `HH:MM:SS`, a fraction where there is one, and the offset.
+// The writer of times: `HH:MM:SS`, the digits of the fraction that were written, and the offset.
 ghost use Prim.Native.Nat.{_-_, _/_, _^_, _≤_};
 ghost use mathlib.Core.Path.{_≡_};
 ghost use lib.ListN.{length};
+ghost use Rattle.parser.specs.Digits.{upToNine};
 ghost use Rattle.time.specs.Rules.{time};
 ghost use Rattle.text.specs.Text.{Puts};
 ghost use Rattle.writing.specs.Spelling.{padded, clockSpelling, fractionSpelling, timeOffsetSpelling, timeSpelling};
 ghost use Rattle.writing.specs.Writing.{measure, Measures, Writes};
-ghost use Rattle.time_writer.specs.Ranges.{tailWidth, FractionWidth, timeOffsetGiven, behindGiven, clockGiven};
+ghost use Rattle.time_writer.specs.Ranges.{timeOffsetGiven, fractionGiven, behindGiven, clockGiven};
 use offset_writer::offset_length;
 use offset_writer::put_offset;
 use text::put_byte;
@@ -19,37 +20,6 @@ use writing::Written;
 use writing::last_digit;
 use writing::put_three;
 use writing::put_two;
-
-// The digits of three that are left without trailing zeros; one at least.
-fn tail_width(n: u32) -> usize
-    ensures { λ r. ⌜ r ≡ tailWidth n ⌝ }
-{
-    if n % 10 != 0 {
-        return 3;
-    }
-    if n % 100 != 0 {
-        return 2;
-    }
-    1
-}
-
-// The nanoseconds' digits that are left of nine without trailing zeros: zeros go by threes, and then one by one.
-fn fraction_width(nanosecond: u32) -> usize
-    ensures { λ r. ⌜ FractionWidth nanosecond r ⌝ }
-{
-    if nanosecond % 1000 != 0 {
-        return 6 + tail_width(nanosecond);
-    }
-    let micro = nanosecond / 1000;
-    if micro % 1000 != 0 {
-        return 3 + tail_width(micro);
-    }
-    let milli = micro / 1000;
-    if milli % 1000 != 0 {
-        return tail_width(milli);
-    }
-    0
-}
 
 // Puts the first digits of nine.
 fn put_digits(out: &mut [u8], at: usize, nanosecond: u32, width: usize) -> usize
@@ -67,28 +37,34 @@ fn put_digits(out: &mut [u8], at: usize, nanosecond: u32, width: usize) -> usize
     next
 }
 
-// Puts a point and the fraction, nothing where it is 0.
-fn put_fraction(out: &mut [u8], at: usize, nanosecond: u32) -> usize
-    ensures { λ r. ⌜ Puts (fractionSpelling nanosecond) (now (out .entry)) at (now (out .exit)) r ⌝ }
+// So many of nine digits; more are all of them.
+fn width(digits: u32) -> usize
+    ensures { λ r. ⌜ r ≡ upToNine digits ⌝ }
 {
-    if nanosecond == 0 {
+    runs::digits_stored(digits as usize) as usize
+}
+
+// Puts a point and so many digits, nothing where there are none.
+fn put_fraction(out: &mut [u8], at: usize, nanosecond: u32, digits: u32) -> usize
+    ensures { λ r. ⌜ Puts (fractionSpelling digits nanosecond) (now (out .entry)) at (now (out .exit)) r ⌝ }
+{
+    if digits == 0 {
         return at;
     }
     let next = put_byte(out, at, b'.');
-    let width = fraction_width(nanosecond);
-    if width == 3 {
+    if digits == 3 {
         return put_three(out, next, nanosecond / 1000000);
     }
-    put_digits(out, next, nanosecond, width)
+    put_digits(out, next, nanosecond, width(digits))
 }
 
-fn fraction_length(nanosecond: u32) -> usize
-    ensures { λ r. ⌜ r ≡ length (fractionSpelling nanosecond) ⌝ }
+fn fraction_length(nanosecond: u32, digits: u32) -> usize
+    ensures { λ r. ⌜ r ≡ length (fractionSpelling digits nanosecond) ⌝ }
 {
-    if nanosecond == 0 {
-        return 0;
+    if 0 < digits {
+        return width(digits) + 1;
     }
-    fraction_width(nanosecond) + 1
+    0
 }
 
 // HH:MM:SS
@@ -116,7 +92,7 @@ pub fn put_time(out: &mut [u8], t: Time) -> usize
     ensures { λ r. ⌜ Puts (timeSpelling t) (now (out .entry)) 0 (now (out .exit)) r ⌝ }
 {
     let next = put_clock(out, 0, t.hour, t.minute, t.second);
-    let next = put_fraction(out, next, t.nanosecond);
+    let next = put_fraction(out, next, t.nanosecond, t.digits);
     let offset = t.offset;
     put_time_offset(out, next, offset)
 }
@@ -131,7 +107,17 @@ fn time_offset_length(o: TimeOffset) -> Measured
     }
 }
 
-// Whether the fields between the hour and the offset are at most these.
+// Whether a nanosecond fits so many digits, at most nine: it has only zeros behind them.
+fn fraction_given(count: u32, nanosecond: u32) -> bool
+    ensures { λ r. ⌜ r ≡ fractionGiven count nanosecond ⌝ }
+{
+    if 9 < count {
+        return false;
+    }
+    nanosecond % runs::unit(count as usize) == 0
+}
+
+// Whether the fields between the hour and the offset are at most these, and the fraction fits its digits.
 fn behind_given(t: Time, minute: u32, second: u32, nanosecond: u32) -> bool
     ensures { λ r. ⌜ r ≡ behindGiven minute second nanosecond t ⌝ }
 {
@@ -141,7 +127,10 @@ fn behind_given(t: Time, minute: u32, second: u32, nanosecond: u32) -> bool
     if second < t.second {
         return false;
     }
-    t.nanosecond <= nanosecond
+    if nanosecond < t.nanosecond {
+        return false;
+    }
+    fraction_given(t.digits, t.nanosecond)
 }
 
 // Whether the fields but the offset lie in their ranges. Hour 24 ends the day: only 2004 has it, and all behind it is 0.
@@ -168,7 +157,9 @@ pub fn time_length(t: Time, choices: Choices) -> Measured
     if clock_given(t, choices) {
         let offset = t.offset;
         match time_offset_length(offset) {
-            Measured::Length(n) => Measured::Length(8 + fraction_length(t.nanosecond) + n),
+            Measured::Length(n) => Measured::Length(
+                8 + fraction_length(t.nanosecond, t.digits) + n,
+            ),
             Measured::NoReader => Measured::NoReader,
         }
     } else {

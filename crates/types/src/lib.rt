@@ -54,11 +54,27 @@ pub enum TimeOffset {
     Given(Offset),
 }
 
+// A fraction of a second, and how many of its digits were written, more than nine as 9.
+pub struct Fraction {
+    pub nanosecond: u32,
+    pub digits: u32,
+}
+
+impl Fraction {
+    // That of a time without one.
+    pub const NONE: Fraction = Fraction {
+        nanosecond: 0,
+        digits: 0,
+    };
+}
+
+// A time of day. `digits`: how many digits of its fraction were written, more than nine as 9.
 pub struct Time {
     pub hour: u32,
     pub minute: u32,
     pub second: u32,
     pub nanosecond: u32,
+    pub digits: u32,
     pub offset: TimeOffset,
 }
 

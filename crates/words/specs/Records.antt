@@ -22,7 +22,7 @@ abbrev pub verdictWord : Verdict → Word
 verdictWord Settled = Named name.Settled
 verdictWord Open = Named name.Open
 
--- a word, where it is shown
+-- a word that not every library has, where it is shown
 abbrev pub shownWord : Bool → Word → Word
 shownWord true w = w
 shownWord false w = Nothing
@@ -40,10 +40,11 @@ abbrev pub timeOffsetWord : TimeOffset → Word
 timeOffsetWord Absent = Named name.None
 timeOffsetWord (Given o) = signedWord (minutesInAll o)
 
--- `time HOUR MINUTE SECOND NANO OFFSET`
-abbrev pub timeWords : Time → List Word
-timeWords t =
-    Named name.Time ∷ Number (t .hour) ∷ Number (t .minute) ∷ Number (t .second) ∷ Number (t .nanosecond) ∷ timeOffsetWord (t .offset) ∷ []
+-- `time HOUR MINUTE SECOND NANO OFFSET DIGITS`
+abbrev pub timeWords : Bool → Time → List Word
+timeWords shown t =
+    Named name.Time ∷ Number (t .hour) ∷ Number (t .minute) ∷ Number (t .second) ∷ Number (t .nanosecond) ∷ timeOffsetWord (t .offset)
+    ∷ shownWord shown (Number (t .digits)) ∷ []
 
 -- `ymd YEAR MONTH DAY`, `week YEAR WEEK DAY` or `ordinal YEAR DAY`
 abbrev pub dateWords : Date → List Word

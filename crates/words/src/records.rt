@@ -78,9 +78,9 @@ fn time_offset(v: TimeOffset) -> Word
     }
 }
 
-// time HOUR MINUTE SECOND NANO OFFSET
-pub fn time(v: Time) -> [Word; 9]
-    ensures { λ r. ⌜ textOf r ≡ textOf (timeWords v) ⌝ }
+// time HOUR MINUTE SECOND NANO OFFSET [DIGITS]
+pub fn time(v: Time, shown: bool) -> [Word; 9]
+    ensures { λ r. ⌜ textOf r ≡ textOf (timeWords shown v) ⌝ }
 {
     let offset = v.offset;
     let no = Word::Nothing;
@@ -91,7 +91,7 @@ pub fn time(v: Time) -> [Word; 9]
         Word::Number(v.second as u64),
         Word::Number(v.nanosecond as u64),
         time_offset(offset),
-        no,
+        shown_word(shown, Word::Number(v.digits as u64)),
         no,
         no,
     ]

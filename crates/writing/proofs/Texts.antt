@@ -12,7 +12,7 @@ use lib.Dec.{eqb}
 use lib.ListN.{length, length-append}
 use lib.Seq.{getD-append-seam}
 use Rattle.parser.proofs.Alike.{Alike}
-use Rattle.parser.specs.Reading.{no, got, Reader, lit, seq, opt, alt, verify, must, map, give, and}
+use Rattle.parser.specs.Reading.{no, got, Reader, lit, seq, opt, alt, verify, must, map, give}
 
 -- the reader p reads the text t to the value v, where x stands behind it and whatever stands before it
 pub record ReadAs {A : Type 0} (p : Reader A) (t x : List ℕ) (v : A) : Type 0 where

@@ -1,8 +1,9 @@
--- The one spelling of each record, beside the sentences of request W1. Bytes: `+` 43, `-` 45, `.` 46, `0` 48, `:` 58, and letters.
+-- The one spelling of each record, beside the sentences of requests W1 and W7. Bytes: `+` 43, `-` 45, `.` 46, `0` 48, `:` 58, and letters.
 use Prim.Native.Nat.{ℕ, zero, suc, _+_, _/_, _%_}
 use mathlib.Core.List.{List, [], _∷_, _++_}
 use mathlib.Core.Bool.{Bool, true, false}
 use lib.Dec.{eqb}
+use lib.ListN.{take}
 use lib.IntN.{ℤ, pos, negsuc, natAbs}
 use Rattle.types.specs.declared.Offset.{Offset}
 use Rattle.types.specs.declared.TimeOffset.{TimeOffset}
@@ -43,29 +44,22 @@ shiftSpelling o = signByte (isMinus o) ∷ padded 2 (natAbs (o .hours)) ++ 58 �
 unfoldable pub offsetSpelling : Offset → List ℕ
 offsetSpelling o = pick (isZulu o) (90 ∷ []) (shiftSpelling o)
 
--- ---- a time: "as `HH:MM:SS`, then a point and the fraction without trailing zeros if it isn't 0, then nothing, `Z` for zero, or a signed `HH:MM`"
+-- ---- a time: "as `HH:MM:SS`, then a point and the fraction [..], then nothing, `Z` for zero, or a signed `HH:MM`"
 
 unfoldable pub clockSpelling : ℕ → ℕ → ℕ → List ℕ
 clockSpelling h m s = padded 2 h ++ 58 ∷ padded 2 m ++ 58 ∷ padded 2 s
 
--- a digit in front of others, and a zero in front of nothing left out
-abbrev pub unlessLast : ℕ → List ℕ → List ℕ
-unlessLast b [] = pick (eqb b 48) [] (b ∷ [])
-unlessLast b (c ∷ t) = b ∷ c ∷ t
-
-unfoldable pub withoutTrailingZeros : List ℕ → List ℕ
-withoutTrailingZeros [] = []
-withoutTrailingZeros (b ∷ s) = unlessLast b (withoutTrailingZeros s)
-
-unfoldable pub fractionSpelling : ℕ → List ℕ
-fractionSpelling n = pick (eqb n 0) [] (46 ∷ withoutTrailingZeros (padded 9 n))
+-- request W7, in the place of W1's "without trailing zeros if it isn't 0": of the nanoseconds' nine digits, "the number of fraction digits
+-- written [..] The writer writes that many", and no point where there are none
+unfoldable pub fractionSpelling : ℕ → ℕ → List ℕ
+fractionSpelling k n = pick (eqb k 0) [] (46 ∷ take k (padded 9 n))
 
 unfoldable pub timeOffsetSpelling : TimeOffset → List ℕ
 timeOffsetSpelling Absent = []
 timeOffsetSpelling (Given o) = offsetSpelling o
 
 unfoldable pub timeSpelling : Time → List ℕ
-timeSpelling t = clockSpelling (t .hour) (t .minute) (t .second) ++ fractionSpelling (t .nanosecond) ++ timeOffsetSpelling (t .offset)
+timeSpelling t = clockSpelling (t .hour) (t .minute) (t .second) ++ fractionSpelling (t .digits) (t .nanosecond) ++ timeOffsetSpelling (t .offset)
 
 -- ---- a date: "as `YYYY-MM-DD`, `YYYY-Www-D` or `YYYY-DDD` by their kind, with `-` only for negative years"
 

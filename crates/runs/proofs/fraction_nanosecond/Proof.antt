@@ -12,10 +12,10 @@ use borrow.Author.Needs.{needs}
 use borrow.Author.Tests.{ltb-true, ltb-false, lt-ltb, le-leb, lt-leb}
 use Rattle.parser.specs.Reading.{Says, got}
 use Rattle.parser.specs.Digits.{fraction, runAt, nanoseconds, atTheEnd}
-use Rattle.runs.specs.Read.{foundRun, runFound, runMore}
+use Rattle.runs.specs.Read.{foundRun, fractionAs, fractionFound, runMore}
 use Rattle.parser.proofs.Fields.{DigitAt, digit-at, below-digits, above-digits}
 use Rattle.parser.proofs.Runs.{run-step, run-other, run-end, end-is, end-is-not}
-use Rattle.runs.proofs.Along.{found-run-says}
+use Rattle.runs.proofs.Along.{found-run-says, fraction-is}
 use Rattle.runs.proofs.Nanoseconds.{nanoseconds-small}
 use Rattle.runs.proofs.Factors.{byPlaces, no-digit, nanoseconds-by-places}
 use Rattle.runs.proofs.fraction_nanosecond.Statement.{statement}
@@ -60,19 +60,21 @@ module _ (s : List ℕ) (at value next place : ℕ) (g : Nine s at value next pl
   at-its-end : runAt s next ≡ [] → next ≡ at + length (runAt s at)
   at-its-end e = omega (arith, g .ends, ap length e)
 
-  ended : (more : Bool) → runAt s next ≡ [] → atTheEnd s at ≡ more → Says fraction s at (runFound (foundRun (ltb at next) more value next)) (runMore (foundRun (ltb at next) more value next))
+  ended : (more : Bool) → runAt s next ≡ [] → atTheEnd s at ≡ more → Says fraction s at (fractionFound at (foundRun (ltb at next) more value next)) (runMore (foundRun (ltb at next) more value next))
   unfolding fraction
-  ended more e em = found-run-says 2 fraction s at (runAt s at) value next more (rw (all-read e)) em (at-its-end e)
+  ended more e em =
+      let end = at-its-end e in
+      found-run-says (fractionAs at) 1 fraction s at (runAt s at) value next more (rw (fraction-is at value next (runAt s at) (sym (all-read e)) end)) em end
 
   -- all nine digits are there, and the rest of the run is dropped
-  nine-all : (end : ℕ) → place ≡ 9 → end ≡ next + length (runAt s next) → Says fraction s at (got value end) (leb (length s) end)
+  nine-all : (end : ℕ) → place ≡ 9 → end ≡ next + length (runAt s next) → Says fraction s at (got (fractionAs at value end) end) (leb (length s) end)
   unfolding fraction byPlaces
   nine-all end e ee =
       let z : 9 - place ≡ 0 = omega arith in
       let n : value + 0 ≡ nanoseconds (runAt s at) = rw z at (g .number) in
-      let ev : value ≡ nanoseconds (runAt s at) = omega (arith, n) in
+      let ev : nanoseconds (runAt s at) ≡ value = omega (arith, n) in
       let here : end ≡ at + length (runAt s at) = omega (arith, g .ends) in
-      let x = found-run-says 2 fraction s at (runAt s at) value end (leb (length s) end) (rw ev) (rw (← here) (sym (leb-not-ltb (length s) end))) here in
+      let x = found-run-says (fractionAs at) 1 fraction s at (runAt s at) value end (leb (length s) end) (rw (fraction-is at value end (runAt s at) ev here)) (rw (← here) (sym (leb-not-ltb (length s) end))) here in
       rw (lt-ltb at end (omega (arith, g .here))) at x
 
 abbrev Inv-loop : tie.InvT-loop

@@ -5,6 +5,7 @@ use mathlib.Core.Path.{ap}
 use native.Mathlib.Omega.{arith}
 use lib.ListN.{length}
 use borrow.Author.Needs.{needs}
+use Rattle.parser.specs.Digits.{number}
 use Rattle.parser.proofs.Fields.{digit-at, below-digits, above-digits}
 use Rattle.parser.proofs.Runs.{run-other, run-end, end-is, end-is-not}
 use Rattle.runs.proofs.Along.{Along, along-start, along-step, ended, past}
@@ -31,7 +32,7 @@ returns c =
     let a = c .before .before .before .before .before .before .args in
     let l = c .before .before .before .before .loop in
     let e = run-other (a .s .now) (l .next) (below-digits (a .s .now) (l .next) (omega arith) (omega arith)) in
-    rw (c .found-run .ensures) (ended 4294967295 2 (a .s .now) (a .at) (l .value) (l .next) (l .inv .0) false (omega (arith, l .inv .1)) e (end-is-not (a .s .now) (a .at) (l .next) (omega (arith, l .inv .0 .ends, ap length e)) (omega arith)))
+    rw (c .found-run .ensures) (ended number 4294967295 2 (a .s .now) (a .at) (l .value) (l .next) (l .inv .0) (λ v n. v) false (omega (arith, l .inv .1)) e (end-is-not (a .s .now) (a .at) (l .next) (omega (arith, l .inv .0 .ends, ap length e)) (omega arith)) (λ d n end. n))
 
 found-run-requires-2 : tie.Need-found-run-requires-2 Inv-loop μ-loop
 found-run-requires-2 c κs = search needs
@@ -41,7 +42,7 @@ returns-2 c =
     let a = c .before .before .before .before .before .before .before .args in
     let l = c .before .before .before .before .before .loop in
     let e = run-other (a .s .now) (l .next) (above-digits (a .s .now) (l .next) (omega arith) (omega arith)) in
-    rw (c .found-run2 .ensures) (ended 4294967295 2 (a .s .now) (a .at) (l .value) (l .next) (l .inv .0) false (omega (arith, l .inv .1)) e (end-is-not (a .s .now) (a .at) (l .next) (omega (arith, l .inv .0 .ends, ap length e)) (omega arith)))
+    rw (c .found-run2 .ensures) (ended number 4294967295 2 (a .s .now) (a .at) (l .value) (l .next) (l .inv .0) (λ v n. v) false (omega (arith, l .inv .1)) e (end-is-not (a .s .now) (a .at) (l .next) (omega (arith, l .inv .0 .ends, ap length e)) (omega arith)) (λ d n end. n))
 
 cast-wide : tie.Need-cast-wide Inv-loop μ-loop
 cast-wide c = omega arith
@@ -59,7 +60,7 @@ returns-3 : tie.Need-returns-3 Inv-loop μ-loop
 returns-3 c =
     let a = c .before .before .before .before .before .before .before .args in
     let l = c .before .before .before .before .before .loop in
-    past 4294967295 2 (a .s .now) (a .at) (l .value) (l .next) (l .inv .0) (digit-at (a .s .now) (l .next) (omega arith) (omega arith) (omega arith)) (omega arith)
+    past number 4294967295 2 (a .s .now) (a .at) (l .value) (l .next) (l .inv .0) (digit-at (a .s .now) (l .next) (omega arith) (omega arith) (omega arith)) (omega arith)
 
 cast-value : tie.Need-cast-value Inv-loop μ-loop
 cast-value c = omega arith
@@ -84,7 +85,7 @@ returns-4 c =
     let a = c .before .before .before .before .args in
     let l = c .before .before .loop in
     let e = run-end (a .s .now) (l .next) (omega arith) in
-    rw (c .found-run3 .ensures) (ended 4294967295 2 (a .s .now) (a .at) (l .value) (l .next) (l .inv .0) true (omega (arith, l .inv .1)) e (end-is (a .s .now) (a .at) (l .next) (omega (arith, l .inv .0 .ends, ap length e)) (omega arith)))
+    rw (c .found-run3 .ensures) (ended number 4294967295 2 (a .s .now) (a .at) (l .value) (l .next) (l .inv .0) (λ v n. v) true (omega (arith, l .inv .1)) e (end-is (a .s .now) (a .at) (l .next) (omega (arith, l .inv .0 .ends, ap length e)) (omega arith)) (λ d n end. n))
 
 pub take-digits-spec : {M : Type 1} → statement M
 take-digits-spec =

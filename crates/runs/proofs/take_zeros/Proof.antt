@@ -5,9 +5,12 @@ use mathlib.Core.Path.{_≡_, ap}
 use native.Mathlib.Omega.{arith}
 use lib.ListN.{length, getD}
 use borrow.Author.Needs.{needs}
+use Rattle.parser.specs.Digits.{fractionOf}
 use Rattle.parser.proofs.Fields.{digit-at, below-digits, above-digits}
 use Rattle.parser.proofs.Runs.{run-other, run-end, end-is, end-is-not}
-use Rattle.runs.proofs.Along.{Along, along-start, along-step, ended, past}
+use Rattle.runs.specs.Read.{fractionAs}
+use Rattle.runs.proofs.Along.{Along, along-start, along-step, fraction-is, ended, past}
+use Rattle.runs.proofs.Nanoseconds.{nanoseconds-zero}
 use Rattle.runs.proofs.take_zeros.Statement.{statement}
 use Rattle.runs.proofs.take_zeros.Tie as tie
 
@@ -31,7 +34,7 @@ returns c =
     let a = c .before .before .before .before .before .before .args in
     let l = c .before .before .before .before .loop in
     let e = run-other (a .s .now) (l .next) (below-digits (a .s .now) (l .next) (omega arith) (omega arith)) in
-    rw (c .found-run .ensures) (ended 0 1 (a .s .now) (a .at) 0 (l .next) (l .inv) false (omega arith) e (end-is-not (a .s .now) (a .at) (l .next) (omega (arith, l .inv .ends, ap length e)) (omega arith)))
+    rw (c .found-run .ensures) (ended fractionOf 0 1 (a .s .now) (a .at) 0 (l .next) (l .inv) (fractionAs (a .at)) false (omega arith) e (end-is-not (a .s .now) (a .at) (l .next) (omega (arith, l .inv .ends, ap length e)) (omega arith)) (λ d n. fraction-is (a .at) 0 (l .next) d (nanoseconds-zero d n)))
 
 found-run-requires-2 : tie.Need-found-run-requires-2 Inv-loop μ-loop
 found-run-requires-2 c κs = search needs
@@ -41,13 +44,13 @@ returns-2 c =
     let a = c .before .before .before .before .before .before .before .args in
     let l = c .before .before .before .before .before .loop in
     let e = run-other (a .s .now) (l .next) (above-digits (a .s .now) (l .next) (omega arith) (omega arith)) in
-    rw (c .found-run2 .ensures) (ended 0 1 (a .s .now) (a .at) 0 (l .next) (l .inv) false (omega arith) e (end-is-not (a .s .now) (a .at) (l .next) (omega (arith, l .inv .ends, ap length e)) (omega arith)))
+    rw (c .found-run2 .ensures) (ended fractionOf 0 1 (a .s .now) (a .at) 0 (l .next) (l .inv) (fractionAs (a .at)) false (omega arith) e (end-is-not (a .s .now) (a .at) (l .next) (omega (arith, l .inv .ends, ap length e)) (omega arith)) (λ d n. fraction-is (a .at) 0 (l .next) d (nanoseconds-zero d n)))
 
 returns-3 : tie.Need-returns-3 Inv-loop μ-loop
 returns-3 c =
     let a = c .before .before .before .before .before .before .before .args in
     let l = c .before .before .before .before .before .loop in
-    past 0 1 (a .s .now) (a .at) 0 (l .next) (l .inv) (digit-at (a .s .now) (l .next) (omega arith) (omega arith) (omega arith)) (omega arith)
+    past fractionOf 0 1 (a .s .now) (a .at) 0 (l .next) (l .inv) (digit-at (a .s .now) (l .next) (omega arith) (omega arith) (omega arith)) (omega arith)
 
 add-next : tie.Need-add-next Inv-loop μ-loop
 add-next c = omega arith
@@ -70,7 +73,7 @@ returns-4 c =
     let a = c .before .before .before .before .args in
     let l = c .before .before .loop in
     let e = run-end (a .s .now) (l .next) (omega arith) in
-    rw (c .found-run3 .ensures) (ended 0 1 (a .s .now) (a .at) 0 (l .next) (l .inv) true (omega arith) e (end-is (a .s .now) (a .at) (l .next) (omega (arith, l .inv .ends, ap length e)) (omega arith)))
+    rw (c .found-run3 .ensures) (ended fractionOf 0 1 (a .s .now) (a .at) 0 (l .next) (l .inv) (fractionAs (a .at)) true (omega arith) e (end-is (a .s .now) (a .at) (l .next) (omega (arith, l .inv .ends, ap length e)) (omega arith)) (λ d n. fraction-is (a .at) 0 (l .next) d (nanoseconds-zero d n)))
 
 pub take-zeros-spec : {M : Type 1} → statement M
 take-zeros-spec =

@@ -17,7 +17,8 @@ returns-2 : tie.Need-returns-2
 returns-2 c =
     let written = c .before .before .before .before .before in
     let made = written .before .before in
-    let minutes = made .before in
+    let digits = made .before in
+    let minutes = digits .before in
     let hours = minutes .before in
     let given = hours .before in
     let nanosecond = given .before in
@@ -29,13 +30,14 @@ returns-2 c =
     let k = args .choices in
     let room = hour .before .if1 .left in
     let held =
-    (slot l room 2 6 (lit< tt) (hour .time-of-arg .given)
-    (slot l room 3 5 (lit< tt) (minute .time-of-arg2 .given)
-    (slot l room 4 4 (lit< tt) (second .time-of-arg3 .given)
-    (slot l room 5 3 (lit< tt) (nanosecond .time-of-arg4 .given)
-    (slot l room 6 2 (lit< tt) (given .time-of-arg5 .given)
-    (slot l room 7 1 (lit< tt) (hours .time-of-arg6 .given)
-    (slot l room 8 0 (lit< tt) (minutes .time-of-arg7 .given) refl))))))) in
+    (slot l room 2 7 (lit< tt) (hour .time-of-arg .given)
+    (slot l room 3 6 (lit< tt) (minute .time-of-arg2 .given)
+    (slot l room 4 5 (lit< tt) (second .time-of-arg3 .given)
+    (slot l room 5 4 (lit< tt) (nanosecond .time-of-arg4 .given)
+    (slot l room 6 3 (lit< tt) (given .time-of-arg5 .given)
+    (slot l room 7 2 (lit< tt) (hours .time-of-arg6 .given)
+    (slot l room 8 1 (lit< tt) (minutes .time-of-arg7 .given)
+    (slot l room 9 0 (lit< tt) (digits .time-of-arg8 .given) refl)))))))) in
     wrote (time-spells k) time-length room (made-of held (made .time-of .ensures k)) (written .write-time .ensures) (c .before .tell .ensures)
 
 pub write-time-spec : {M : Type 1} → statement M
@@ -43,7 +45,7 @@ write-time-spec =
     tie.close
     (tie.spec
     (λ c. few (c .if1 .taken))
-    (λ c. search needs) (λ c. search needs) (λ c. search needs) (λ c. search needs) (λ c. search needs) (λ c. search needs) (λ c. search needs) (λ c κs. search needs) (λ c κs. search needs)
+    (λ c. search needs) (λ c. search needs) (λ c. search needs) (λ c. search needs) (λ c. search needs) (λ c. search needs) (λ c. search needs) (λ c. search needs) (λ c κs. search needs) (λ c κs. search needs)
     tell-requires
     (λ c. search needs) (λ c. search needs)
     returns-2)

@@ -18,7 +18,7 @@ use Rattle.slots.proofs.Laws.{date-length, time-length, few, far, put}
 use Rattle.slots.proofs.put_datetime.Statement.{statement}
 use Rattle.slots.proofs.put_datetime.Tie as tie
 
-both : {v : ℤ} {m q : ℕ} {x : DateTime} {before mid after : List ℤ} → SFits w64 v → 13 ≤ length before → Answered dateSlots (toZ w64 (ofZ w64 v)) (recorded (x .date) m) before mid q → after ≡ sets mid 6 (timeSlots (x .time)) → Answered dateTimeSlots v (recorded x m) before after 0
+both : {v : ℤ} {m q : ℕ} {x : DateTime} {before mid after : List ℤ} → SFits w64 v → 14 ≤ length before → Answered dateSlots (toZ w64 (ofZ w64 v)) (recorded (x .date) m) before mid q → after ≡ sets mid 6 (timeSlots (x .time)) → Answered dateTimeSlots v (recorded x m) before after 0
 both {v} {m} {x = x} {before} {mid} fits h d t =
     let first = pos m ∷ v ∷ dateSlots (x .date) in
     let then = timeSlots (x .time) in

@@ -1,13 +1,13 @@
--- The time's seven numbers are a run of four and one of three, behind the count and the verdict.
+-- The time's eight numbers are two runs of four, behind the count and the verdict.
 use mathlib.Core.List.{[], _∷_}
 use mathlib.Core.Path.{refl}
 use native.Mathlib.Omega.{arith}
 use lib.IntN.{pos}
 use mir.Facts.{toZ-ofZ}
 use borrow.Author.Needs.{needs}
-use Rattle.slots.specs.Slots.{timeOffsetSlots}
+use Rattle.slots.specs.Slots.{behindSlots}
 use Rattle.slots.proofs.Stores.{_then_, by, goes-on}
-use Rattle.slots.proofs.Laws.{few, far, put, headed, time-length}
+use Rattle.slots.proofs.Laws.{few, far, put, headed, behind, time-length}
 use Rattle.slots.proofs.put_time.Statement.{statement}
 use Rattle.slots.proofs.put_time.Tie as tie
 
@@ -22,4 +22,4 @@ put-time-spec =
     (λ c.
     let t = c .before .before .before .before .before .before .before .before .before .before .before .before .before .before .before .args .t in
     let head = c .before .before .before .before .before .before .before .before .before .before .put-head in
-    put (omega arith) (omega arith) (headed (search needs) (omega (arith, time-length t)) (head .ensures) (goes-on (head .last .0) 2 (pos (t .hour) ∷ pos (t .minute) ∷ pos (t .second) ∷ pos (t .nanosecond) ∷ []) (timeOffsetSlots (t .offset)) (by (c .before .before .before .before .before .before .before .before .before .before .before .before .shift-of .ensures) (toZ-ofZ (search needs) then toZ-ofZ (search needs) then toZ-ofZ (search needs) then refl)) (c .before .before .before .before .before .before .before .put-four .ensures) (c .before .put-three .ensures)))))
+    put (omega arith) (omega arith) (headed (search needs) (omega (arith, time-length t)) (head .ensures) (goes-on (head .last .0) 2 (pos (t .hour) ∷ pos (t .minute) ∷ pos (t .second) ∷ pos (t .nanosecond) ∷ []) (behindSlots (t .offset) (t .digits)) (by (behind (t .offset) (t .digits) (c .before .before .before .before .before .before .before .before .before .before .before .before .shift-of .ensures)) (toZ-ofZ (search needs) then toZ-ofZ (search needs) then toZ-ofZ (search needs) then refl)) (c .before .before .before .before .before .before .before .put-four .ensures) (c .before .put-behind .ensures)))))

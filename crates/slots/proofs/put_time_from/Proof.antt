@@ -1,11 +1,12 @@
--- The offset's run goes on where the four numbers end.
+-- The offset's run goes on where the four numbers end, and the digits behind it.
 use mathlib.Core.List.{[], _∷_}
 use mathlib.Core.Path.{refl}
 use lib.IntN.{pos}
 use mir.Facts.{toZ-ofZ}
 use borrow.Author.Needs.{needs}
-use Rattle.slots.specs.Slots.{timeOffsetSlots}
+use Rattle.slots.specs.Slots.{behindSlots}
 use Rattle.slots.proofs.Stores.{_then_, by, goes-on}
+use Rattle.slots.proofs.Laws.{behind}
 use Rattle.slots.proofs.put_time_from.Statement.{statement}
 use Rattle.slots.proofs.put_time_from.Tie as tie
 
@@ -16,4 +17,4 @@ put-time-from-spec =
     (λ c κs. search needs) (λ c κs. search needs) (λ c. search needs) (λ c κs. search needs) (λ c. search needs)
     (λ c.
     let a = c .before .before .before .before .before .before .before .before .before .before .args in
-    goes-on (a .slots .now) (a .at) (pos (a .t .hour) ∷ pos (a .t .minute) ∷ pos (a .t .second) ∷ pos (a .t .nanosecond) ∷ []) (timeOffsetSlots (a .t .offset)) (by (c .before .before .before .before .before .before .before .before .before .shift-of .ensures) (toZ-ofZ (search needs) then toZ-ofZ (search needs) then toZ-ofZ (search needs) then refl)) (c .before .before .before .before .before .before .before .put-four .ensures) (c .before .put-three .ensures)))
+    goes-on (a .slots .now) (a .at) (pos (a .t .hour) ∷ pos (a .t .minute) ∷ pos (a .t .second) ∷ pos (a .t .nanosecond) ∷ []) (behindSlots (a .t .offset) (a .t .digits)) (by (behind (a .t .offset) (a .t .digits) (c .before .before .before .before .before .before .before .before .before .shift-of .ensures)) (toZ-ofZ (search needs) then toZ-ofZ (search needs) then toZ-ofZ (search needs) then refl)) (c .before .before .before .before .before .before .before .put-four .ensures) (c .before .put-behind .ensures)))

@@ -11,6 +11,7 @@ use borrow.Author.Tests.{ltb-false, lt-ltb, le-ltb, eqb-true, ne-eqb}
 use Rattle.types.specs.declared.Choices.{Choices}
 use Rattle.types.specs.declared.Edition.{Edition}
 use Rattle.types.specs.declared.Edition.the-variants.{E2004, E2019}
+use Rattle.types.specs.declared.Fraction.{Fraction}
 use Rattle.types.specs.declared.Time.{Time}
 use Rattle.types.specs.declared.TimeOffset.the-variants.{Absent, Given}
 use Rattle.parser.specs.Reading.{no, got, Reader, lit, seq, opt, alt, or, Says}
@@ -28,10 +29,10 @@ use Rattle.looks.specs.declared.PlainOffset.{PlainOffset}
 use Rattle.looks.specs.declared.PlainOffset.the-variants as shift
 use Rattle.looks.proofs.Choices.{picked-first, picked-second}
 use Rattle.looks.proofs.Two.{two-is, two-field, preceded-two, digit-no}
-use Rattle.looks.proofs.Thousandths.{three-end, three-other}
+use Rattle.looks.proofs.Thousandths.{milliseconds, three-end, three-other}
 use Rattle.offset.specs.Rules.{offset}
 use Rattle.offset.proofs.plain.Laws.{Starts, zulu, sign, end-says, plain-end, plain-read}
-use Rattle.time.specs.Rules.{Clock, hourOf, endsDay, clockOf, millisecond, secondMillisecond, minuteSecondMillisecond, orMidnight, timeOf, timeOffset, afterHour, baseTime, time}
+use Rattle.time.specs.Rules.{Clock, hourOf, endsDay, noFraction, clockOf, millisecond, secondMillisecond, minuteSecondMillisecond, orMidnight, timeOf, timeOffset, afterHour, baseTime, time}
 use Rattle.time.specs.Plain.{timeWith, withOffset, plainTime, firstPlain}
 use Rattle.time.specs.declared.plain.PlainTime.{PlainTime}
 use Rattle.time.specs.declared.plain.PlainTime.the-variants as time
@@ -47,8 +48,8 @@ record SameTime (t u : Time) (k n : ℕ) (l m : Bool) : Type 0 where
 time-once : {t u : Time} {k n : ℕ} {l m : Bool} → time.Got t k l ≡ time.Got u n m → SameTime t u k n l m
 time-once e = record { value = cc; next = cc; more = cc }
 
-abbrev clockWith : ℕ → ℕ → ℕ → Clock
-clockWith m x n = record { minute = m; second = x; nanosecond = n }
+abbrev clockWith : ℕ → ℕ → Fraction → Clock
+clockWith m x n = record { minute = m; second = x; fraction = n }
 
 -- ---- what stands behind a plain time
 
@@ -56,11 +57,11 @@ data Behind (s : List ℕ) (at : ℕ) : Bool → Type 0 where
   end : length s ≤ at → Behind s at true
   byte : at < length s → Starts s at → Behind s at false
 
-record Tail (s : List ℕ) (at h m x n : ℕ) (t : Time) (next : ℕ) (more : Bool) : Type 0 where
+record Tail (s : List ℕ) (at h m x : ℕ) (n : Fraction) (t : Time) (next : ℕ) (more : Bool) : Type 0 where
   behind : Behind s at more
   says : Says (timeOffset h (clockWith m x n)) s at (got t next) more
 
-tail : (s : List ℕ) (at h m x n : ℕ) (t : Time) (next : ℕ) (more : Bool) → withOffset h m x n at (plainOffset s at) ≡ time.Got t next more → Tail s at h m x n t next more
+tail : (s : List ℕ) (at h m x : ℕ) (n : Fraction) (t : Time) (next : ℕ) (more : Bool) → withOffset h m x n at (plainOffset s at) ≡ time.Got t next more → Tail s at h m x n t next more
 unfolding timeOffset
 tail s at h m x n t next more e = go (plainOffset s at) refl e
   where
@@ -80,7 +81,7 @@ tail s at h m x n t next more e = go (plainOffset s at) refl e
 -- ---- the fraction, or none
 
 module _ (s : List ℕ) (at mi se : ℕ) where
-  abbrev point : Reader ℕ
+  abbrev point : Reader Fraction
   point = seq (either 44 46) (λ _. fraction)
 
   no-point : (more : Bool) → Behind s at more → Says (either 44 46) s at no more
@@ -90,7 +91,7 @@ module _ (s : List ℕ) (at mi se : ℕ) where
   no-point more (byte l (sign true e)) = let i = lt-ltb at (length s) l in record { found = simp (i, e); more = simp (i, e) }
   no-point more (byte l (sign false e)) = let i = lt-ltb at (length s) l in record { found = simp (i, e); more = simp (i, e) }
 
-  none-says : (more : Bool) → Behind s at more → Says (millisecond false mi se) s at (got (clockWith mi se 0) at) more
+  none-says : (more : Bool) → Behind s at more → Says (millisecond false mi se) s at (got (clockWith mi se noFraction) at) more
   unfolding millisecond
   none-says more b = says-map (opt point) s at (clockOf mi se) _ more (says-opt point s at no more (says-seq-no (either 44 46) s at (λ _. fraction) more (no-point more b)))
 
@@ -119,7 +120,7 @@ module _ (s : List ℕ) (at mi se : ℕ) where
   unfolding alt lit
   point-says x = let i = lt-ltb at (length s) (omega (arith, x .long)) in let b = eqb-true (getD s at 0) 46 (x .point) in record { found = simp (i, b); more = simp (i, b) }
 
-  digits-say : (ms : ℕ) → Point ms → (more : Bool) → Behind s (at + 4) more → Says fraction s (at + 1) (got (ms * 1000000) (at + 4)) more
+  digits-say : (ms : ℕ) → Point ms → (more : Bool) → Behind s (at + 4) more → Says fraction s (at + 1) (got (milliseconds ms) (at + 4)) more
   digits-say ms x more b = rw (x .value) at (by-end more b)
     where
       p : at + 1 + 1 ≡ at + 2
@@ -136,11 +137,11 @@ module _ (s : List ℕ) (at mi se : ℕ) where
       other l (sign true e) = record { inside = lt-ltb (at + 4) (length s) l; is = rw e }
       other l (sign false e) = record { inside = lt-ltb (at + 4) (length s) l; is = rw e }
 
-      by-end : (more : Bool) → Behind s (at + 4) more → Says fraction s (at + 1) (got ((twoDigits 48 (getD s (at + 1) 0) 0 9 * 100 + twoDigits (getD s (at + 2) 0) (getD s (at + 3) 0) 0 99) * 1000000) (at + 4)) more
+      by-end : (more : Bool) → Behind s (at + 4) more → Says fraction s (at + 1) (got (milliseconds (twoDigits 48 (getD s (at + 1) 0) 0 9 * 100 + twoDigits (getD s (at + 2) 0) (getD s (at + 3) 0) 0 99)) (at + 4)) more
       by-end more (end l) = rw (p, q, r) at (three-end s (at + 1) (omega (arith, x .long)) (x .first) (rw (p, q) (x .rest)) (omega (arith, l)))
       by-end more (byte l e) = rw (p, q, r) at (three-other s (at + 1) (omega (arith, x .long)) (x .first) (rw (p, q) (x .rest)) (rw r (other l e)))
 
-  some-says : (ms : ℕ) → Point ms → (more : Bool) → Behind s (at + 4) more → Says (millisecond false mi se) s at (got (clockWith mi se (ms * 1000000)) (at + 4)) more
+  some-says : (ms : ℕ) → Point ms → (more : Bool) → Behind s (at + 4) more → Says (millisecond false mi se) s at (got (clockWith mi se (milliseconds ms)) (at + 4)) more
   unfolding millisecond
   some-says ms x more b =
       says-map (opt point) s at (clockOf mi se) _ more
@@ -220,7 +221,7 @@ module _ (s : List ℕ) (at h m x : ℕ) where
         let r : at + 5 + 3 ≡ at + 8 = omega arith in
         rw (p, q, r, y .last) at (preceded-two s (at + 5) 58 0 60 (omega (arith, y .long)) (y .second) refl (rw (p, q) (y .seconds)))
 
-    base-says : (c : Choices) (n place : ℕ) (t : Time) (next : ℕ) (more : Bool) → Says (millisecond false m x) s (at + 8) (got (clockWith m x n) place) more → Tail s place h m x n t next more → Says (baseTime c) s at (got t next) more
+    base-says : (c : Choices) (n : Fraction) (place : ℕ) (t : Time) (next : ℕ) (more : Bool) → Says (millisecond false m x) s (at + 8) (got (clockWith m x n) place) more → Tail s place h m x n t next more → Says (baseTime c) s at (got t next) more
     unfolding baseTime afterHour minuteSecondMillisecond secondMillisecond
     base-says c n place t next more f b =
         rw (or-same more) at
@@ -236,7 +237,7 @@ module _ (s : List ℕ) (at h m x : ℕ) where
 
 -- the plain time that starts at a place, with milliseconds or without
 abbrev pub plainAt : List ℕ → ℕ → PlainTime
-plainAt s at = firstPlain (plainTime s (at + 12) (plainClock s at) (plainMillisecond s (at + 8))) (plainTime s (at + 8) (plainClock s at) 0)
+plainAt s at = firstPlain (plainTime s (at + 12) (plainClock s at) (plainMillisecond s (at + 8)) 3) (plainTime s (at + 8) (plainClock s at) 0 0)
 
 pub record Read (c : Choices) (s : List ℕ) (at : ℕ) (t : Time) (next : ℕ) (more : Bool) : Type 0 where
   pub inside : at < length s
@@ -247,32 +248,32 @@ module _ (c : Choices) (s : List ℕ) (at : ℕ) (t : Time) (next : ℕ) (more :
   read : (h m x : ℕ) → Hands s at h m x → Says (baseTime c) s at (got t next) more → Read c s at t next more
   read h m x y e = record { inside = omega (arith, y .long); digit = two-is (getD s at 0) (getD s (at + 1) 0) 0 23 (y .hours) .first; says = e }
 
-  exact : (h m x : ℕ) → Hands s at h m x → plainTime s (at + 12) (clock.Got h m x) (plainMillisecond s (at + 8)) ≡ time.Got t next more → Read c s at t next more
+  exact : (h m x : ℕ) → Hands s at h m x → plainTime s (at + 12) (clock.Got h m x) (plainMillisecond s (at + 8)) 3 ≡ time.Got t next more → Read c s at t next more
   unfolding plainTime
   exact h m x y e =
       let ms = plainMillisecond s (at + 8) in
       let a = picked-second (ltb 999 ms) no-time e in
-      let b = tail s (at + 12) h m x (ms * 1000000) t next more (a .1) in
+      let b = tail s (at + 12) h m x (milliseconds ms) t next more (a .1) in
       let p : at + 8 + 4 ≡ at + 12 = omega arith in
       let z = seen s (at + 8) m x ms refl (ltb-false 999 ms (a .0)) in
-      read h m x y (base-says s at h m x y c (ms * 1000000) (at + 12) t next more (rw p at (some-says s (at + 8) m x ms z more (rw p (b .behind)))) b)
+      read h m x y (base-says s at h m x y c (milliseconds ms) (at + 12) t next more (rw p at (some-says s (at + 8) m x ms z more (rw p (b .behind)))) b)
 
-  even : (h m x : ℕ) → Hands s at h m x → plainTime s (at + 8) (clock.Got h m x) 0 ≡ time.Got t next more → Read c s at t next more
+  even : (h m x : ℕ) → Hands s at h m x → plainTime s (at + 8) (clock.Got h m x) 0 0 ≡ time.Got t next more → Read c s at t next more
   unfolding plainTime
   even h m x y e =
-      let b = tail s (at + 8) h m x 0 t next more e in
-      read h m x y (base-says s at h m x y c 0 (at + 8) t next more (none-says s (at + 8) m x more (b .behind)) b)
+      let b = tail s (at + 8) h m x noFraction t next more e in
+      read h m x y (base-says s at h m x y c noFraction (at + 8) t next more (none-says s (at + 8) m x more (b .behind)) b)
 
   pub plain-base : plainAt s at ≡ time.Got t next more → Read c s at t next more
   unfolding plainTime
   plain-base e = by-clock (plainClock s at) refl e
     where
-      by-first : (h m x : ℕ) → Hands s at h m x → (f : PlainTime) → plainTime s (at + 12) (clock.Got h m x) (plainMillisecond s (at + 8)) ≡ f → firstPlain f (plainTime s (at + 8) (clock.Got h m x) 0) ≡ time.Got t next more → Read c s at t next more
+      by-first : (h m x : ℕ) → Hands s at h m x → (f : PlainTime) → plainTime s (at + 12) (clock.Got h m x) (plainMillisecond s (at + 8)) 3 ≡ f → firstPlain f (plainTime s (at + 8) (clock.Got h m x) 0 0) ≡ time.Got t next more → Read c s at t next more
       by-first h m x y (time.Got u k l) i e = exact h m x y (i ∙ e)
       by-first h m x y time.Other i e = even h m x y e
 
-      by-clock : (k : PlainClock) → plainClock s at ≡ k → firstPlain (plainTime s (at + 12) k (plainMillisecond s (at + 8))) (plainTime s (at + 8) k 0) ≡ time.Got t next more → Read c s at t next more
-      by-clock (clock.Got h m x) i e = by-first h m x (hands s at h m x i) (plainTime s (at + 12) (clock.Got h m x) (plainMillisecond s (at + 8))) refl e
+      by-clock : (k : PlainClock) → plainClock s at ≡ k → firstPlain (plainTime s (at + 12) k (plainMillisecond s (at + 8)) 3) (plainTime s (at + 8) k 0 0) ≡ time.Got t next more → Read c s at t next more
+      by-clock (clock.Got h m x) i e = by-first h m x (hands s at h m x i) (plainTime s (at + 12) (clock.Got h m x) (plainMillisecond s (at + 8)) 3) refl e
       by-clock clock.Other i e = absurd (no-time e)
 
 -- at the beginning: a digit is no `T`

@@ -4,24 +4,27 @@ use mathlib.Core.List.{List}
 use mathlib.Core.Bool.{Bool, true, false}
 use mathlib.Core.Option.{Option, some, none}
 use mathlib.Core.Path.{_≡_, refl, sym, _∙_}
+use Rattle.types.specs.declared.Fraction.{Fraction}
 use Rattle.parser.specs.Reading.{Found, Reader, Says, SaysOn, no, got, stop, seq, opt, mapFound, or}
 use Rattle.parser.specs.Fields.{either}
+use Rattle.parser.specs.Digits.{fractionOf}
 use Rattle.parser.proofs.Places.{no≢got}
+use Rattle.parser.proofs.Ahead.{Ahead, run-ahead, fraction-ahead}
 use Rattle.parser.proofs.Says.{or-false, or-true, says-opt, says-seq-got, says-seq-no, says-on, on-map}
 use Rattle.time.specs.Rules.{fractionIf, clockOf, millisecond}
 use borrow.Author.Needs.{needs}
 use Rattle.time.proofs.time_millisecond.Statement.{statement}
 use Rattle.time.proofs.time_millisecond.Tie as tie
 
-abbrev tail : Bool → Reader ℕ
+abbrev tail : Bool → Reader Fraction
 tail z = seq (either 44 46) (λ _. fractionIf z)
 
 module _ (z : Bool) (mi se : ℕ) (s : List ℕ) (at : ℕ) (b m : Bool) where
-  made : (f : Found (Option ℕ)) (l : Bool) → Says (opt (tail z)) s at f l → m ≡ or b l → SaysOn b (millisecond z mi se) s at (mapFound (clockOf mi se) f) m
+  made : (f : Found (Option Fraction)) (l : Bool) → Says (opt (tail z)) s at f l → m ≡ or b l → SaysOn b (millisecond z mi se) s at (mapFound (clockOf mi se) f) m
   unfolding millisecond
   made f l h e = rw e (on-map b (opt (tail z)) s at (clockOf mi se) f (or b l) (says-on (opt (tail z)) s at f b l h))
 
-  there : (v n : ℕ) (l : Bool) → Says (tail z) s at (got v n) l → m ≡ or b l → SaysOn b (millisecond z mi se) s at (got (clockOf mi se (some v)) n) m
+  there : (v : Fraction) (n : ℕ) (l : Bool) → Says (tail z) s at (got v n) l → m ≡ or b l → SaysOn b (millisecond z mi se) s at (got (clockOf mi se (some v)) n) m
   there v n l h e = made (got (some v) n) l (says-opt (tail z) s at (got v n) l h) e
 
   left-out : (l : Bool) → Says (tail z) s at no l → m ≡ or b l → SaysOn b (millisecond z mi se) s at (got (clockOf mi se none) at) m
@@ -35,54 +38,31 @@ not-open : (b : Bool) {f : Found Unit} {n : ℕ} → (b ≡ true → f ≡ no) �
 not-open true h e = absurd (no≢got (sym (h refl) ∙ sym e))
 not-open false h e = refl
 
-one-of-requires : tie.Need-one-of-requires
-one-of-requires c κs = search needs
+-- the digits stand behind it
+digits-ahead : (z : Bool) → Ahead (fractionIf z)
+digits-ahead false = fraction-ahead
+digits-ahead true = run-ahead fractionOf 0 1
 
-enum-known-mark : tie.Need-enum-known-mark
-enum-known-mark c = search needs
+-- a fraction by its two numbers
+fraction-by : {f : Fraction} {v d : ℕ} → f .nanosecond ≡ v → f .digits ≡ d → f ≡ record { nanosecond = v; digits = d }
+fraction-by e g = rw (← e, ← g)
 
-fraction-at-requires : tie.Need-fraction-at-requires
-fraction-at-requires c κs = search needs
-
-enum-known-fraction : tie.Need-enum-known-fraction
-enum-known-fraction c = search needs
-
-either-open-requires : tie.Need-either-open-requires
-either-open-requires c κs = search needs
-
-enum-told : tie.Need-enum-told
-enum-told c = search needs
-
-enum-told-2 : tie.Need-enum-told-2
-enum-told-2 c = search needs
-
-no-fraction-requires : tie.Need-no-fraction-requires
-no-fraction-requires c κs = search needs
-
-enum-told-3 : tie.Need-enum-told-3
-enum-told-3 c = search needs
-
-no-fraction-requires-2 : tie.Need-no-fraction-requires-2
-no-fraction-requires-2 c κs = search needs
-
-enum-told-4 : tie.Need-enum-told-4
-enum-told-4 c = search needs
-
-no-fraction-requires-3 : tie.Need-no-fraction-requires-3
-no-fraction-requires-3 c κs = search needs
-
-enum-told-5 : tie.Need-enum-told-5
-enum-told-5 c = search needs
-
-no-fraction-requires-4 : tie.Need-no-fraction-requires-4
-no-fraction-requires-4 c κs = search needs
+sub-fraction-of : tie.Need-sub-fraction-of
+sub-fraction-of c =
+    let d = c .before in
+    let a = d .before .before .before .before .before .before .before .before .args in
+    let frac = rw (d .fraction .given .1) at (d .before .before .fraction-at .ensures) in
+    digits-ahead (a .zero) (a .s .now) _ _ _ (sym (frac .found))
 
 returns : tie.Need-returns
 returns c =
-    let a = c .before .before .before .before .before .before .before .before .before .before .args in
-    let mark = rw (c .before .before .before .before .before .before .mark .given .1) at (c .before .before .before .before .before .before .before .before .one-of .ensures) in
-    let frac = rw (c .before .before .fraction .given .1) at (c .before .before .before .before .fraction-at .ensures) in
-    there (a .zero) (a .minute) (a .second) (a .s .now) (a .at) (a .more) _ _ _ _ (says-seq-got (either 44 46) (a .s .now) (a .at) (λ _. fractionIf (a .zero)) tt _ false _ _ mark frac) (c .either-open .ensures)
+    let made = c .before .before in
+    let d = made .before .before in
+    let a = d .before .before .before .before .before .before .before .before .args in
+    let mark = rw (d .before .before .before .before .mark .given .1) at (d .before .before .before .before .before .before .one-of .ensures) in
+    let frac = rw (d .fraction .given .1) at (d .before .before .fraction-at .ensures) in
+    rw (c .with-fraction .ensures .0, c .with-fraction .ensures .1, fraction-by (made .fraction-of .ensures .0) (made .fraction-of .ensures .1))
+    (there (a .zero) (a .minute) (a .second) (a .s .now) (a .at) (a .more) _ _ _ _ (says-seq-got (either 44 46) (a .s .now) (a .at) (λ _. fractionIf (a .zero)) tt _ false _ _ mark frac) (c .before .either-open .ensures))
 
 returns-2 : tie.Need-returns-2
 returns-2 c =
@@ -121,20 +101,10 @@ pub time-millisecond-spec : {M : Type 1} → statement M
 time-millisecond-spec =
     tie.close
     (tie.spec
-    one-of-requires
-    enum-known-mark
-    fraction-at-requires
-    enum-known-fraction
-    either-open-requires
-    enum-told
-    enum-told-2
-    no-fraction-requires
-    enum-told-3
-    no-fraction-requires-2
-    enum-told-4
-    no-fraction-requires-3
-    enum-told-5
-    no-fraction-requires-4
+    (λ c κs. search needs) (λ c. search needs) (λ c κs. search needs) (λ c. search needs)
+    sub-fraction-of
+    (λ c κs. search needs) (λ c κs. search needs) (λ c κs. search needs) (λ c. search needs) (λ c. search needs) (λ c κs. search needs) (λ c. search needs) (λ c κs. search needs)
+    (λ c. search needs) (λ c κs. search needs) (λ c. search needs) (λ c κs. search needs)
     returns
     returns-2
     returns-3

@@ -1,26 +1,29 @@
--- The point, and as many digits as are left.
-use Prim.Native.Nat.{_-_, _/_, _^_}
-use mathlib.Core.Path.{ap}
+-- The point, and the digits.
+use mathlib.Core.Path.{sym}
 use native.Mathlib.Omega.{arith}
 use borrow.Author.Needs.{needs}
 use borrow.Author.Tests.{eq-eqb, ne-eqb}
-use lib.ListN.{length}
 use Rattle.writing.specs.Spelling.{fractionSpelling}
-use Rattle.writing.proofs.Digits.{length-padded}
+use Rattle.time_writer.proofs.Nine.{nine-most}
+use Rattle.time_writer.proofs.Lengths.{fraction-some}
 use Rattle.time_writer.proofs.fraction_length.Statement.{statement}
 use Rattle.time_writer.proofs.fraction_length.Tie as tie
 
 returns : tie.Need-returns
-unfolding fractionSpelling
-returns c = rw (eq-eqb (c .before .args .nanosecond) 0 (c .if1 .taken))
+returns c =
+    let some = c .before in
+    let args = some .before .args in
+    rw (c .width .ensures) (sym (fraction-some (args .digits) (args .nanosecond) (ne-eqb (args .digits) 0 (λ e. omega (arith, some .if1 .taken)))))
 
 returns-2 : tie.Need-returns-2
 unfolding fractionSpelling
-returns-2 c =
-    let width = c .fraction-width .ensures in
-    let r = c .fraction-width .result in
-    let n = c .before .before .args .nanosecond in
-    rw (ne-eqb n 0 (c .before .if1 .left)) (omega (arith, ap length (width .digits), length-padded r (n / 10 ^ (9 - r))))
+returns-2 c = rw (eq-eqb (c .before .args .digits) 0 (omega (arith, c .if1 .left)))
 
 pub fraction-length-spec : {M : Type 1} → statement M
-fraction-length-spec = tie.close (tie.spec returns (λ c κs. search needs) (λ c. record { fits = omega (arith, c .fraction-width .ensures .few) }) returns-2)
+fraction-length-spec =
+    tie.close
+    (tie.spec
+    (λ c κs. search needs)
+    (λ c. record { fits = omega (arith, c .width .ensures, nine-most (c .before .before .args .digits)) })
+    returns
+    returns-2)

@@ -8,7 +8,7 @@ use lib.ListN.{length}
 use Rattle.text.specs.Text.{Puts}
 use Rattle.text.proofs.Laws.{puts-nothing, then-puts}
 use Rattle.writing.specs.Spelling.{padded}
-use Rattle.time_writer.proofs.Zeros.{tenth, first-digits, a-digit}
+use Rattle.time_writer.proofs.Nine.{tenth, first-digits, a-digit}
 use Rattle.time_writer.proofs.put_digits.Statement.{statement}
 use Rattle.time_writer.proofs.put_digits.Tie as tie
 

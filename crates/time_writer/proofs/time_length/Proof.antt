@@ -49,12 +49,12 @@ time-length-spec =
     tie.close
     (tie.spec
     (λ c κs. search needs) (λ c κs. search needs) (λ c. search needs) (λ c κs. search needs)
-    (λ c. let t = c .before .before .before .before .before .before .before .args .t in record { fits = omega (arith, c .fraction-length .ensures, fraction-short (t .nanosecond)) })
+    (λ c. let t = c .before .before .before .before .before .before .before .args .t in record { fits = omega (arith, c .fraction-length .ensures, fraction-short (t .digits) (t .nanosecond)) })
     (λ c.
     let offset = c .before .before .before .before in
     let t = offset .before .before .before .args .t in
     let long = measure-long (timeOffsetGiven (t .offset)) (sym (offset .time-offset-length .ensures) ∙ c .before .before .n .given .1) in
-    record { fits = omega (arith, c .fraction-length .ensures, fraction-short (t .nanosecond), long .1, zone-short (t .offset)) })
+    record { fits = omega (arith, c .fraction-length .ensures, fraction-short (t .digits) (t .nanosecond), long .1, zone-short (t .offset)) })
     (λ c. search needs)
     returns
     returns-2

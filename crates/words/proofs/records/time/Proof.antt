@@ -7,5 +7,5 @@ pub time-spec : {M : Type 1} → statement M
 time-spec =
     tie.close
     (tie.spec
-    (λ c. search needs) (λ c. search needs) (λ c. search needs) (λ c. search needs) (λ c κs. search needs)
-    (λ c. rw (c .time-offset .ensures)))
+    (λ c. search needs) (λ c. search needs) (λ c. search needs) (λ c. search needs) (λ c κs. search needs) (λ c. search needs) (λ c κs. search needs)
+    (λ c. rw (c .shown-word .ensures, c .before .before .time-offset .ensures)))
