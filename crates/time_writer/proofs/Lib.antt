@@ -1,3 +1,4 @@
 pub mod Nine
 pub mod Lengths
 pub mod Laws
+pub mod Kept

@@ -1,0 +1,163 @@
+-- Writing what was read gives back the text's own fraction, up to nine digits; and a fraction that does not fit its digits is read from nothing.
+use Prim.Native.Nat.{ℕ, zero, suc, _+_, _*_, _-_, _≤_, _<_}
+use mathlib.Core.List.{List, [], _∷_, _++_}
+use mathlib.Core.Bool.{Bool, true, false}
+use mathlib.Core.Option.{some, none}
+use mathlib.Core.Path.{_≡_, refl, sym, ap, _∙_}
+use native.Mathlib.Omega.{arith}
+use borrow.Author.Tests.{ltb-true, ltb-false, lt-leb, leb-true, ne-eqb}
+use lib.Dec.{ltb, leb, eqb}
+use lib.ListN.{length, getD, take, drop, replicate, length-append, length-replicate}
+use lib.Seq.{take-all, take-take, take-append-le, length-take-le}
+use Rattle.types.specs.declared.Choices.{Choices}
+use Rattle.types.specs.declared.Fraction.{Fraction}
+use Rattle.types.specs.declared.Time.{Time}
+use Rattle.parser.specs.Reading.{Found, no, got, stop, lit, seq, then, opt, lack, alt, orElse, map, mapFound, and, pick}
+use Rattle.parser.specs.Digits.{isDigit, digits, numberFrom, number, runAt, ofRun, runAs, nanoseconds, upToNine, fractionOf, fraction}
+use Rattle.parser.specs.Fields.{either}
+use Rattle.parser.proofs.Fields.{true≢false, and-first, and-second}
+use Rattle.parser.proofs.Places.{no≢got, stop≢got, got-value, got-place}
+use Rattle.runs.proofs.Nanoseconds.{nanoseconds-small}
+use Rattle.time.specs.Rules.{Clock, fractionIf, noFraction, clockOf, millisecond, time}
+use Rattle.writing.specs.Spelling.{padded, fractionSpelling}
+use Rattle.writing.specs.Writing.{Readable}
+use Rattle.writing.proofs.Digits.{AllDigits, none as no-digit, also, all-append, length-padded, number-padded, padded-digits}
+use Rattle.time_writer.specs.Ranges.{fractionGiven}
+use Rattle.time_writer.proofs.Laws.{time-within, time-spells}
+
+-- ---- digits are told by their number and how many they are
+
+digit-within : (b : ℕ) → isDigit b ≡ true → (48 ≤ b) × (b ≤ 57)
+digit-within b e = (leb-true 48 b (and-first (leb 48 b) (leb b 57) e), leb-true b 57 (and-second (leb 48 b) e))
+
+number-once : (d e : List ℕ) (v w : ℕ) → AllDigits d → AllDigits e → length d ≡ length e → numberFrom v d ≡ numberFrom w e → (v ≡ w) × (d ≡ e)
+unfolding numberFrom
+number-once [] [] v w hd he l n = (n, refl)
+number-once [] (c ∷ e) v w hd he l n = absurd (omega arith)
+number-once (b ∷ d) [] v w hd he l n = absurd (omega arith)
+number-once (b ∷ d) (c ∷ e) v w (also hb hd) (also hc he) l n =
+    let rest = number-once d e (v * 10 + (b - 48)) (w * 10 + (c - 48)) hd he (omega arith) n in
+    let x = digit-within b hb in
+    let y = digit-within c hc in
+    let same : b ≡ c = omega (arith, rest .0) in
+    (omega (arith, rest .0), rw (same, rest .1))
+
+run-digits : (l : List ℕ) → AllDigits (digits l)
+unfolding digits
+run-digits [] = no-digit
+run-digits (b ∷ l) = go (isDigit b) refl (run-digits l)
+  where
+    go : (t : Bool) → isDigit b ≡ t → AllDigits (digits l) → AllDigits (pick t (b ∷ digits l) [])
+    go true e h = also e h
+    go false e h = no-digit
+
+zeros : (n : ℕ) → AllDigits (replicate n 48)
+zeros zero = no-digit
+zeros (suc n) = also {b = 48} refl (zeros n)
+
+front : (k : ℕ) {d : List ℕ} → AllDigits d → AllDigits (take k d)
+front zero h = no-digit
+front (suc k) no-digit = no-digit
+front (suc k) (also hb h) = also hb (front k h)
+
+-- ---- the fraction is the text's own
+
+-- all nine digits, padded as they were when they were read
+nine-digits : (l : List ℕ) → padded 9 (nanoseconds (digits l)) ≡ take 9 (digits l ++ replicate 9 48)
+nine-digits l =
+    let d = digits l ++ replicate 9 48 in
+    let n = nanoseconds (digits l) in
+    let long : 9 ≤ length d = omega (arith, length-append (digits l) (replicate 9 48), length-replicate {A = ℕ} 9 48) in
+    let size : length (padded 9 n) ≡ length (take 9 d) = length-padded 9 n ∙ sym (length-take-le 9 d long) in
+    number-once (padded 9 n) (take 9 d) 0 0 (padded-digits 9 n) (front 9 (all-append (run-digits l) (zeros 9))) size (number-padded 9 n (omega (arith, nanoseconds-small l))) .1
+
+pub fraction-kept : (l : List ℕ) → 0 < length (digits l) → fractionSpelling (fractionOf (digits l) .digits) (fractionOf (digits l) .nanosecond) ≡ 46 ∷ take 9 (digits l)
+unfolding fractionSpelling
+fraction-kept l some-digit = go (ltb 9 (length d)) refl
+  where
+    d : List ℕ
+    d = digits l
+
+    -- of the nine digits the first ones are the run's
+    first : (k : ℕ) → k ≤ 9 → k ≤ length d → 0 < k → pick (eqb k 0) [] (46 ∷ take k (padded 9 (nanoseconds d))) ≡ 46 ∷ take k d
+    first k few short pos = rw (ne-eqb k 0 (λ e. omega arith), nine-digits l, take-take k 9 (d ++ replicate 9 48) few, take-append-le k d (replicate 9 48) short)
+
+    go : (t : Bool) → ltb 9 (length d) ≡ t → fractionSpelling (fractionOf d .digits) (fractionOf d .nanosecond) ≡ 46 ∷ take 9 d
+    go true e = rw e (first 9 (omega arith) (omega (arith, ltb-true 9 (length d) e)) (omega arith))
+    go false e = let few = ltb-false 9 (length d) e in rw e (first (length d) few (omega arith) some-digit ∙ ap (_∷_ 46) (take-all (length d) d (omega arith) ∙ sym (take-all 9 d few)))
+
+-- what a clock has of the text at a place: a comma or point and digits stand there and are read, or nothing is
+pub data Keeps (s : List ℕ) (at : ℕ) (c : Clock) (n : ℕ) : Type 0 where
+  nothing : n ≡ at → c .fraction ≡ noFraction → Keeps s at c n
+  digits-at : n ≡ at + 1 + length (runAt s (at + 1)) → fractionSpelling (c .fraction .digits) (c .fraction .nanosecond) ≡ 46 ∷ take 9 (runAt s (at + 1)) → Keeps s at c n
+
+point-place : (s : List ℕ) (at : ℕ) (u : Unit) (m : ℕ) → either 44 46 .reads s at ≡ got u m → m ≡ at + 1
+unfolding alt lit
+point-place s at u m e = go (and (ltb at (length s)) (eqb (getD s at 0) 44)) (and (ltb at (length s)) (eqb (getD s at 0) 46)) e
+  where
+    go : (t v : Bool) → orElse (pick t (got tt (at + 1)) no) (pick v (got tt (at + 1)) no) ≡ got u m → m ≡ at + 1
+    go true v e = sym (got-place e)
+    go false true e = sym (got-place e)
+    go false false e = absurd (no≢got e)
+
+-- what either leaf reads
+record Run (s : List ℕ) (at : ℕ) (f : Fraction) (n : ℕ) : Type 0 where
+  some-digit : 0 < length (runAt s at)
+  is : fractionOf (runAt s at) ≡ f
+  ends : at + length (runAt s at) ≡ n
+
+run-of : (z : Bool) (s : List ℕ) (at : ℕ) (f : Fraction) (n : ℕ) → fractionIf z .reads s at ≡ got f n → Run s at f n
+unfolding fraction runAs
+run-of z s at f n e = go z (runAt s at) refl e
+  where
+    made : (d : List ℕ) → runAt s at ≡ d → 0 < length d → got (fractionOf d) (at + length d) ≡ got f n → Run s at f n
+    made d i h e = record { some-digit = rw i h; is = rw i (got-value e); ends = rw i (got-place e) }
+
+    go : (z : Bool) (d : List ℕ) → runAt s at ≡ d → fractionIf z .reads s at ≡ got f n → Run s at f n
+    go false [] i e = absurd (no≢got (rw i at e))
+    go false (b ∷ d) i e = made (b ∷ d) i (omega arith) (rw i at e)
+    go true [] i e = absurd (no≢got (rw i at e))
+    go true (b ∷ d) i e = zero (leb (number (b ∷ d)) 0) (rw i at e)
+      where
+        zero : (t : Bool) → pick t (got (fractionOf (b ∷ d)) (at + length (b ∷ d))) (stop 1) ≡ got f n → Run s at f n
+        zero true e = made (b ∷ d) i (omega arith) e
+        zero false e = absurd (stop≢got e)
+
+pub kept : (z : Bool) (mi se : ℕ) (s : List ℕ) (at : ℕ) (c : Clock) (n : ℕ) → millisecond z mi se .reads s at ≡ got c n → Keeps s at c n
+unfolding millisecond map opt seq
+kept z mi se s at c n e = go (either 44 46 .reads s at) refl e
+  where
+    absent : got (clockOf mi se none) at ≡ got c n → Keeps s at c n
+    absent e = let same : clockOf mi se none ≡ c = got-value e in nothing (sym (got-place e)) (rw (← same))
+
+    read : (m : ℕ) → m ≡ at + 1 → (x : Found Fraction) → fractionIf z .reads s m ≡ x → mapFound (clockOf mi se) (lack at x) ≡ got c n → Keeps s at c n
+    read m here no ex e = absent e
+    read m here (stop r) ex e = absurd (stop≢got e)
+    read m here (got f k) ex e =
+        let r = run-of z s m f k ex in
+        let same : clockOf mi se (some f) ≡ c = got-value e in
+        rw (← same) (digits-at (rw here at (sym (got-place e) ∙ sym (r .ends))) (rw (← r .is, here) (fraction-kept (drop (at + 1) s) (rw here at (r .some-digit)))))
+
+    go : (x : Found Unit) → either 44 46 .reads s at ≡ x → mapFound (clockOf mi se) (lack at (then x (λ _ m. fractionIf z .reads s m))) ≡ got c n → Keeps s at c n
+    go no ex e = absent e
+    go (stop r) ex e = absurd (stop≢got e)
+    go (got u m) ex e = read m (point-place s at u m ex) (fractionIf z .reads s m) refl e
+
+-- ---- what does not fit
+
+-- "4 also for a nanosecond that doesn't fit its digit count": no reader gives it, of either edition
+pub unfit : (c : Choices) (t : Time) → fractionGiven (t .digits) (t .nanosecond) ≡ false → Readable (time c) t → ⊥
+unfit c t e r = true≢false (sym (time-within c t (time-spells c .ranges t r) .behind .fraction .fits) ∙ e)
+
+-- half a second with no digits, 123 nanoseconds with six, and anything with more than nine
+pub half-a-second : fractionGiven 0 500000000 ≡ false
+unfolding fractionGiven
+half-a-second = refl
+
+pub with-six : fractionGiven 6 123 ≡ false
+unfolding fractionGiven
+with-six = refl
+
+pub past-nine : (k n : ℕ) → 9 < k → fractionGiven k n ≡ false
+unfolding fractionGiven
+past-nine k n h = rw (lt-leb k 9 h)
