@@ -85,8 +85,8 @@ enum { TIROZHBAR_COUNT = 0, TIROZHBAR_VERDICT = 1 };
 /* An offset from UTC. Hours and minutes carry the same sign, or are zero: -00:30 is 0 and -30. */
 enum { TIROZHBAR_OFFSET_HOURS = 2, TIROZHBAR_OFFSET_MINUTES = 3, TIROZHBAR_OFFSET_SLOTS = 4 };
 
-/* A time. Without an offset the three slots of one are 0; with one, GIVEN is 1. DIGITS is the number of digits that its fraction was written
- * with, 9 where they were more: 0 without one. */
+/* A time. Without an offset its three slots are 0; with one, GIVEN is 1. DIGITS is the number of digits that the fraction was written with,
+ * 9 where they were more; without a fraction it is 0. */
 enum {
     TIROZHBAR_TIME_HOUR = 2,
     TIROZHBAR_TIME_MINUTE = 3,
@@ -175,8 +175,8 @@ enum {
 
 /* Z, or a sign and HH:MM. 4 slots. */
 uint32_t tirozhbar_write_offset(int64_t *slots, size_t room, uint8_t *text, size_t length);
-/* HH:MM:SS, a point and the first DIGITS of the nine digits of NANOSECOND if DIGITS is not 0, then nothing or the offset. The other digits of
- * the nine have to be 0, or no reader leaves such slots. 10 slots. */
+/* HH:MM:SS, a point and the first DIGITS of the nine digits of NANOSECOND if DIGITS is not 0, then nothing or the offset. DIGITS is
+ * at most 9 and the digits behind are 0, or no reader leaves such slots. 10 slots. */
 uint32_t tirozhbar_write_time(int64_t *slots, size_t room, uint8_t *text, size_t length, uint32_t choices);
 /* YYYY-MM-DD, YYYY-Www-D or YYYY-DDD by the form, with - in front of a negative year. 6 slots. */
 uint32_t tirozhbar_write_date(int64_t *slots, size_t room, uint8_t *text, size_t length);

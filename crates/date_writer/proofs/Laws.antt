@@ -21,7 +21,8 @@ use Rattle.date.specs.Answer.{afterYear}
 use Rattle.date.proofs.Laws.{date-alike}
 use Rattle.writing.specs.Spelling.{padded, yearSpelling, dateSpelling}
 use Rattle.writing.proofs.Texts.{ReadAs, Refuses, lit-reads, seq-reads, seq-refuses, seq-refuses-behind, map-reads, map-refuses, verify-reads, opt-reads, opt-lacks, alt-first, alt-second, alt-refuses, alike-reads, whole}
-use Rattle.writing.proofs.Digits.{none, natAbs-signed, padded-refuses, padded-digits, length-padded, field-reads, field-refuses}
+use Rattle.parser.proofs.Runs.{none}
+use Rattle.writing.proofs.Digits.{natAbs-signed, padded-refuses, padded-digits, length-padded, field-reads, field-refuses}
 use Rattle.writing.proofs.Yields.{Yields, OrLeftOut, seq-yields, map-yields, opt-yields, alt-yields, verify-yields, preceded-yields, field-yields, anything}
 use Rattle.writing.proofs.Laws.{Spells}
 use Rattle.date_writer.specs.Ranges.{yearGiven, dateGiven}

@@ -1,16 +1,35 @@
 -- Laws of digit runs: where they go on and end, and how they grow with the input.
-use Prim.Native.Nat.{ℕ, suc, _+_, _*_, _-_, _<_, _≤_}
+use Prim.Native.Nat.{ℕ, zero, suc, _+_, _*_, _-_, _<_, _≤_}
 use mathlib.Core.List.{List, [], _∷_, _++_}
 use mathlib.Core.Bool.{Bool, true, false}
 use mathlib.Core.Path.{_≡_, refl, ap}
 use native.Mathlib.Omega.{arith}
 use native.Mathlib.Numerals.{add-one}
-use lib.ListN.{length, getD, drop-of-length-le}
+use lib.ListN.{length, getD, replicate, drop-of-length-le}
 use lib.Seq.{drop-cons}
 use borrow.Author.Tests.{ltb-true, lt-ltb, le-ltb}
 use Rattle.parser.specs.Reading.{pick}
 use Rattle.parser.specs.Digits.{isDigit, digits, numberFrom, runAt, atTheEnd}
 use Rattle.parser.proofs.Fields.{DigitAt, OtherAt}
+
+-- digits and nothing else, as a run is
+pub data AllDigits : List ℕ → Type 0 where
+  none : AllDigits []
+  also : {b : ℕ} {d : List ℕ} → isDigit b ≡ true → AllDigits d → AllDigits (b ∷ d)
+
+-- a run, and digits behind it
+pub run-digits : (l : List ℕ) {z : List ℕ} → AllDigits z → AllDigits (digits l ++ z)
+unfolding digits
+run-digits [] h = h
+run-digits (b ∷ l) {z} h = go (isDigit b) refl (run-digits l h)
+  where
+    go : (t : Bool) → isDigit b ≡ t → AllDigits (digits l ++ z) → AllDigits (pick t (b ∷ digits l) [] ++ z)
+    go true e ih = also e ih
+    go false e ih = h
+
+pub zero-digits : (n : ℕ) → AllDigits (replicate n 48)
+zero-digits zero = none
+zero-digits (suc n) = also {b = 48} refl (zero-digits n)
 
 -- a run at a digit is that digit and the run after it
 pub run-step : (s : List ℕ) (at : ℕ) → DigitAt s at → runAt s at ≡ getD s at 0 ∷ runAt s (at + 1)

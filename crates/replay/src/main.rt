@@ -3,8 +3,8 @@
 //
 //     K HEXBYTES TAB B COUNT W WCOUNT RECORD
 //
-// in the words of `answers`, without the verdict, which the original has not. Among the sample are lines that are wrong on purpose, so that a
-// comparison that sees nothing shows.
+// in the words of `answers`, without the verdict and a time's digits, which the original has not. Among the sample are lines that are wrong on
+// purpose, so that a comparison that sees nothing shows.
 use stream::Program;
 
 fn main() {

@@ -92,7 +92,7 @@ AnswersTo shown Unknown s t = t ≡ lettersOf name.Unknown
 abbrev pub Answers : Bool → List ℕ → List ℕ → Type 0
 Answers shown l t = AnswersTo shown (questionOf l) (textIn l) t
 
--- an answer with its verdict, and the byte 10 that ends its line
+-- an answer with all its words, and the byte 10 that ends its line
 pub record AnswersLine (l t : List ℕ) : Type 0 where
   pub answer : List ℕ
   pub answers : Answers true l answer

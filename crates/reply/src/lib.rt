@@ -56,7 +56,7 @@ fn put_record(out: &mut [u8], at: usize, value: Record, shown: bool) -> usize
     }
 }
 
-// RECORD, or a dash where there is none. `shown`: with the digits of a time, which no other library has.
+// RECORD, or a dash where there is none. `shown`: with the digits of a time, which the original has not.
 pub fn put_told(out: &mut [u8], at: usize, answer: Answer, shown: bool) -> usize
     ensures { λ r. ⌜ Puts (textOf (recordOrDash shown (told answer .value))) (now (out .entry)) at (now (out .exit)) r ⌝ }
 {
@@ -147,7 +147,7 @@ pub fn plain_question(line: &[u8]) -> Letter
     question_in(Head::PLAIN, line)
 }
 
-// The answer to a line without its end. `shown`: with the verdict and the digits of a time, which no other library has.
+// The answer to a line without its end. `shown`: with the verdict and the digits of a time, which the original has not.
 pub fn answer(line: &[u8], shown: bool, out: &mut [u8], at: usize) -> usize
     ensures { λ r. ⌜ Gives (Answers shown (now (line .entry))) (now (out .entry)) at (now (out .exit)) r ⌝ }
 {

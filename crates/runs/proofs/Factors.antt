@@ -6,6 +6,7 @@ use native.Mathlib.Omega.{arith}
 use native.Mathlib.Nat.{add-mul, mul-one, add-zero}
 use lib.ListN.{length, getD, take, replicate}
 use Rattle.parser.specs.Digits.{numberFrom, number, nanoseconds}
+use Rattle.parser.proofs.Runs.{number-grows}
 use Rattle.runs.proofs.Nanoseconds.{times-ten}
 
 -- ---- the table of factors
@@ -77,3 +78,15 @@ short-number (b ∷ d) (suc k) v h n =
 
 pub nanoseconds-short : (d : List ℕ) → length d ≤ 9 → nanoseconds d ≡ number d * 10 ^ (9 - length d)
 nanoseconds-short d h = short-number d 9 0 h (omega arith)
+
+-- zeros are no nanoseconds
+zeros-cut : (d : List ℕ) (k : ℕ) → k ≤ 9 → number d ≡ 0 → number (take k (d ++ replicate 9 48)) ≡ 0
+unfolding numberFrom
+zeros-cut [] k h e = omega (arith, zeros-number k 9 0 h)
+zeros-cut (b ∷ d) zero h e = refl
+zeros-cut (b ∷ d) (suc k) h e =
+    let first : b - 48 ≡ 0 = omega (arith, number-grows d (0 * 10 + (b - 48)), e) in
+    rw first (zeros-cut d k (omega arith) (rw first at e))
+
+pub nanoseconds-zero : (d : List ℕ) → number d ≡ 0 → nanoseconds d ≡ 0
+nanoseconds-zero d e = zeros-cut d 9 (omega arith) e

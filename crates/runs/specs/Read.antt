@@ -17,10 +17,11 @@ foundAs f r run.Cut = no
 abbrev pub runFound : Run → Found ℕ
 runFound = foundAs (λ v n. v) 2
 
--- a fraction of so many nanoseconds: its digits stand from its first place to its end. One that has to be 0 and is not is no form.
+-- a fraction of so many nanoseconds: its digits stand from its first place to its end
 abbrev pub fractionAs : ℕ → ℕ → ℕ → Fraction
 fractionAs at v n = record { nanosecond = v; digits = upToNine (n - at) }
 
+-- one that has to be 0 and is not is no form
 abbrev pub fractionFound : ℕ → Run → Found Fraction
 fractionFound at = foundAs (fractionAs at) 1
 

@@ -3,8 +3,7 @@
 //
 //     K HEXBYTES TAB B COUNT W WCOUNT RECORD
 //
-// in the words of `answers`, without the verdict and a time's digits, which no other library has. The response is `same`, or `differs` and
-// our answer.
+// in the words of `answers`, without the verdict and a time's digits. The response is `same`, or `differs` and our answer.
 ghost use mathlib.Core.Path.{_≡_};
 ghost use lib.ListN.{length};
 ghost use Prim.Native.Nat.{_<_};

@@ -1,5 +1,5 @@
--- Nine digits of a fraction decide its number and how many are stored, and one digit stands for two whether all are 0; a comma or point with at most ten digits is
--- eleven bytes.
+-- Nine digits of a fraction decide its number and how many are stored, and one digit stands for two whether all are 0; a comma or point with
+-- at most ten digits is eleven bytes.
 use Prim.Native.Nat.{ℕ, _+_, _-_, _*_, _<_, _≤_}
 use mathlib.Core.List.{List, [], _∷_, _++_, append-assoc}
 use mathlib.Core.Bool.{Bool, true, false}

@@ -10,7 +10,7 @@ use lib.Dec.{ltb, leb, eqb}
 use borrow.Author.Tests.{ltb-true, ltb-false, lt-ltb, le-ltb}
 use Rattle.parser.specs.Reading.{Found, no, got, stop, Reader, lit, seq, then, alt, orElse, pick, and}
 use Rattle.parser.specs.Digits.{isDigit, digitsFrom, field, number, runAt, ofRun, runAs, fractionOf, fraction}
-use Rattle.shortening.proofs.Cuts.{Cut, whole, kept, before, behind, Carried}
+use Rattle.shortening.proofs.Cuts.{Cut, whole, kept, behind, Carried}
 
 -- what is found, so many places further on
 abbrev pub onward : {A : Type 0} → ℕ → Found A → Found A

@@ -1,5 +1,5 @@
 -- What is stored is what the answer says, and without room nothing is.
-use Prim.Native.Nat.{ℕ, suc, _+_, _≤_, _<_, _^_}
+use Prim.Native.Nat.{ℕ, _+_, _≤_, _<_, _^_}
 use mathlib.Core.List.{List, [], _∷_, _++_}
 use mathlib.Core.Path.{_≡_, refl, ap, _∙_}
 use native.Mathlib.Omega.{arith}
@@ -20,7 +20,7 @@ use Rattle.slots.proofs.Stores.{sets-over}
 
 -- ---- the slots of a kind whose record has cases
 
-pub offset-length : (o : TimeOffset) → length (timeOffsetSlots o) ≡ 3
+offset-length : (o : TimeOffset) → length (timeOffsetSlots o) ≡ 3
 offset-length Absent = refl
 offset-length (Given o) = refl
 

@@ -185,7 +185,7 @@ pub fn put_time(slots: &mut [i64], count: usize, verdict: i64, t: Time) -> u32
         return TOO_FEW;
     }
     let o = t.offset;
-    let shift = shift_of(o); // before anything is stored: else it is asked once more at the end
+    let shift = shift_of(o); // before anything is stored: else it is asked again behind that
     put_head(slots, count, verdict);
     put_four(slots, 2, t.hour, t.minute, t.second, t.nanosecond);
     put_behind(slots, 6, shift.given, shift.hours, shift.minutes, t.digits);

@@ -1,4 +1,5 @@
--- 2019 is document 01 as it stands: its rule of times, written here without editions, is the rule under 2019.
+-- 2019 is document 01 as it stands, with W7's digits beside its nanoseconds: its rule of times, written here without editions, is the rule
+-- under 2019.
 use mathlib.Core.Path.{_≡_, refl}
 use Rattle.types.specs.declared.Time.{Time}
 use Rattle.types.specs.Editions.{document01}

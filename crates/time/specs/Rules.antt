@@ -1,5 +1,6 @@
 -- Document 01's rule of times, and beside it request W5's: "The caller names 2004 or 2019. 2019 is document 01 as it stands". What W5 adds
--- asks whether the hour ends the day, and under 2019 none does (`proofs/Document.antt`).
+-- asks whether the hour ends the day, and under 2019 none does (`proofs/Document.antt`). Request W7's digits stand beside the nanoseconds:
+-- "for this one document 01's time rule is extended" (`fractionOf` in `parser/specs/Digits`).
 use Prim.Native.Nat.{ℕ}
 use mathlib.Core.Bool.{Bool, true, false}
 use mathlib.Core.Option.{Option, some, none}
@@ -42,7 +43,7 @@ pub record Clock : Type 0 where
   pub second : ℕ
   pub fraction : Fraction
 
--- "Absent fields are 0."
+-- "Absent fields are 0.": a fraction, and all behind the hour
 abbrev pub noFraction : Fraction
 noFraction = record { nanosecond = 0; digits = 0 }
 

@@ -43,10 +43,8 @@ pub fn plain_time(
                 return PlainTime::Other;
             }
             let offset = looks::plain_offset(s, at);
-            let fraction = Fraction {
-                nanosecond: millisecond * 1000000,
-                digits,
-            };
+            let nanosecond = millisecond * 1000000;
+            let fraction = Fraction { nanosecond, digits };
             with_offset(hour, minute, second, fraction, at, offset)
         }
         PlainClock::Other => PlainTime::Other,

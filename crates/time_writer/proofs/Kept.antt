@@ -13,15 +13,16 @@ use Rattle.types.specs.declared.Choices.{Choices}
 use Rattle.types.specs.declared.Fraction.{Fraction}
 use Rattle.types.specs.declared.Time.{Time}
 use Rattle.parser.specs.Reading.{Found, no, got, stop, lit, seq, then, opt, lack, alt, orElse, map, mapFound, and, pick}
-use Rattle.parser.specs.Digits.{isDigit, digits, numberFrom, number, runAt, ofRun, runAs, nanoseconds, upToNine, fractionOf, fraction}
+use Rattle.parser.specs.Digits.{isDigit, digits, numberFrom, number, runAt, runAs, nanoseconds, fractionOf, fraction}
 use Rattle.parser.specs.Fields.{either}
 use Rattle.parser.proofs.Fields.{true≢false, and-first, and-second}
 use Rattle.parser.proofs.Places.{no≢got, stop≢got, got-value, got-place}
+use Rattle.parser.proofs.Runs.{AllDigits, none as no-digit, also, run-digits, zero-digits}
 use Rattle.runs.proofs.Nanoseconds.{nanoseconds-small}
 use Rattle.time.specs.Rules.{Clock, fractionIf, noFraction, clockOf, millisecond, time}
 use Rattle.writing.specs.Spelling.{padded, fractionSpelling}
 use Rattle.writing.specs.Writing.{Readable}
-use Rattle.writing.proofs.Digits.{AllDigits, none as no-digit, also, all-append, length-padded, number-padded, padded-digits}
+use Rattle.writing.proofs.Digits.{length-padded, number-padded, padded-digits}
 use Rattle.time_writer.specs.Ranges.{fractionGiven}
 use Rattle.time_writer.proofs.Laws.{time-within, time-spells}
 
@@ -42,19 +43,6 @@ number-once (b ∷ d) (c ∷ e) v w (also hb hd) (also hc he) l n =
     let same : b ≡ c = omega (arith, rest .0) in
     (omega (arith, rest .0), rw (same, rest .1))
 
-run-digits : (l : List ℕ) → AllDigits (digits l)
-unfolding digits
-run-digits [] = no-digit
-run-digits (b ∷ l) = go (isDigit b) refl (run-digits l)
-  where
-    go : (t : Bool) → isDigit b ≡ t → AllDigits (digits l) → AllDigits (pick t (b ∷ digits l) [])
-    go true e h = also e h
-    go false e h = no-digit
-
-zeros : (n : ℕ) → AllDigits (replicate n 48)
-zeros zero = no-digit
-zeros (suc n) = also {b = 48} refl (zeros n)
-
 front : (k : ℕ) {d : List ℕ} → AllDigits d → AllDigits (take k d)
 front zero h = no-digit
 front (suc k) no-digit = no-digit
@@ -69,7 +57,7 @@ nine-digits l =
     let n = nanoseconds (digits l) in
     let long : 9 ≤ length d = omega (arith, length-append (digits l) (replicate 9 48), length-replicate {A = ℕ} 9 48) in
     let size : length (padded 9 n) ≡ length (take 9 d) = length-padded 9 n ∙ sym (length-take-le 9 d long) in
-    number-once (padded 9 n) (take 9 d) 0 0 (padded-digits 9 n) (front 9 (all-append (run-digits l) (zeros 9))) size (number-padded 9 n (omega (arith, nanoseconds-small l))) .1
+    number-once (padded 9 n) (take 9 d) 0 0 (padded-digits 9 n) (front 9 (run-digits l (zero-digits 9))) size (number-padded 9 n (omega (arith, nanoseconds-small l))) .1
 
 pub fraction-kept : (l : List ℕ) → 0 < length (digits l) → fractionSpelling (fractionOf (digits l) .digits) (fractionOf (digits l) .nanosecond) ≡ 46 ∷ take 9 (digits l)
 unfolding fractionSpelling

@@ -4,7 +4,7 @@ use Prim.Native.Nat.{ℕ, _+_, _-_, _/_, _%_, _^_, _≤_, _<_}
 use mathlib.Core.List.{List, [], _∷_, _++_, append-assoc, append-nil}
 use mathlib.Core.Bool.{Bool, true, false}
 use mathlib.Core.Option.{Option, some, none}
-use mathlib.Core.Path.{_≡_, refl, sym}
+use mathlib.Core.Path.{_≡_, refl}
 use native.Mathlib.Omega.{arith}
 use native.Mathlib.Nat.{zero-div}
 use borrow.Author.Tests.{le-leb, leb-true, eq-eqb, eqb-true, eqb-false, ne-eqb}
@@ -23,18 +23,19 @@ use Rattle.parser.specs.Reading.{lit, seq, opt, pick}
 use Rattle.parser.specs.Digits.{isDigit, field, number, fractionOf}
 use Rattle.parser.specs.Fields.{either, precededBy}
 use Rattle.parser.proofs.Fields.{and-first, and-second}
+use Rattle.parser.proofs.Runs.{AllDigits}
 use Rattle.parser.proofs.Leaves.{From}
 use Rattle.offset.specs.Rules.{offset, offsetHour, offsetZulu}
 use Rattle.time.specs.Rules.{hourOf, endsDay, zeroIf, fractionIf, noFraction, orNoFraction, Clock, clockOf, millisecond, secondMillisecond, minuteSecondMillisecond, orMidnight, orAbsent, timeOf, timeOffset, afterHour, baseTime, time}
 use Rattle.writing.specs.Spelling.{padded, signByte, isMinus, isZulu, shiftSpelling, offsetSpelling, clockSpelling, fractionSpelling, timeOffsetSpelling, timeSpelling}
 use Rattle.writing.proofs.Texts.{ReadAs, Refuses, lit-reads, lit-refuses, lit-refuses-end, seq-reads, seq-refuses, map-reads, map-refuses, must-reads, opt-reads, opt-lacks, alt-second, alt-refuses, whole}
-use Rattle.writing.proofs.Digits.{AllDigits, begins, field-reads, run-reads, fraction-reads}
+use Rattle.writing.proofs.Digits.{begins, field-reads, run-reads, fraction-reads}
 use Rattle.writing.proofs.Yields.{Yields, OrLeftOut, seq-yields, map-yields, opt-yields, must-yields, preceded-yields, field-yields, run-as-yields, fraction-yields, anything, absent-within}
 use Rattle.writing.proofs.Laws.{Spells}
 use Rattle.offset_writer.specs.Ranges.{offsetGiven}
 use Rattle.offset_writer.proofs.Laws.{offset-reads, offset-yields}
 use Rattle.time_writer.specs.Ranges.{timeOffsetGiven, lastHour, upTo, fractionGiven, clockGiven, timeGiven}
-use Rattle.time_writer.proofs.Nine.{FractionWithin, fraction-back, digits-within, zeros-within}
+use Rattle.time_writer.proofs.Nine.{FractionWithin, fraction-day, fraction-back, digits-within, zeros-within}
 
 -- ---- the ranges, by the hour
 
@@ -79,20 +80,16 @@ pub last-small : (e : Edition) → lastHour e ≤ 24
 last-small E2019 = omega arith
 last-small E2004 = omega arith
 
-day : (z : Bool) {n : ℕ} → n ≤ upTo z 999999999 → n ≤ 999999999
-day false h = h
-day true h = omega arith
-
 pub within-day : (z : Bool) {m s : ℕ} {f : Fraction} → Within z m s f → Within false m s f
 within-day false w = w
-within-day true w = record { minute = omega (arith, w .minute); second = omega (arith, w .second); fraction = record { nanosecond = omega (arith, w .fraction .nanosecond); fits = w .fraction .fits } }
+within-day true w = record { minute = omega (arith, w .minute); second = omega (arith, w .second); fraction = fraction-day true (w .fraction) }
 
 -- no digits are no nanoseconds
-no-digits : (f : Fraction) → f .nanosecond ≤ 999999999 → fractionGiven (f .digits) (f .nanosecond) ≡ true → f .digits ≡ 0 → noFraction ≡ f
+no-digits : (f : Fraction) → FractionWithin false f → f .digits ≡ 0 → noFraction ≡ f
 unfolding fractionGiven
-no-digits f h e z =
-    let fits : eqb (f .nanosecond % 1000000000) 0 ≡ true = and-second (leb 0 9) (rw z at e) in
-    let none : f .nanosecond ≡ 0 = omega (arith, eqb-true (f .nanosecond % 1000000000) 0 fits) in
+no-digits f w z =
+    let fits : eqb (f .nanosecond % 1000000000) 0 ≡ true = and-second (leb 0 9) (rw z at (w .fits)) in
+    let none : f .nanosecond ≡ 0 = omega (arith, w .nanosecond, eqb-true (f .nanosecond % 1000000000) 0 fits) in
     rw (none, z)
 
 -- ---- the offset at the end of a time, and what may stand behind a second
@@ -149,11 +146,11 @@ unfolding fractionSpelling
 fraction-is z f x w b = go (eqb (f .digits) 0) refl
   where
     go : (t : Bool) → eqb (f .digits) 0 ≡ t → Fractional z f x
-    go true e = record { value = none; is = no-digits f (day z (w .nanosecond)) (w .fits) (eqb-true (f .digits) 0 e); reads = rw e (opt-lacks (seq-refuses _ (alt-refuses (b .no-comma) (b .no-point)))) }
+    go true e = record { value = none; is = no-digits f (fraction-day z w) (eqb-true (f .digits) 0 e); reads = rw e (opt-lacks (seq-refuses _ (alt-refuses (b .no-comma) (b .no-point)))) }
     go false e =
         let k = f .digits in
         let n = f .nanosecond in
-        let d = fraction-back n k (day z (w .nanosecond)) (w .fits) in
+        let d = fraction-back n k (fraction-day z w .nanosecond) (w .fits) in
         let some-digit : 0 < k = let h = eqb-false k 0 e in omega arith in
         record {
           value = some (fractionOf (take k (padded 9 n)));

@@ -1,22 +1,23 @@
 -- The nine digits of a fraction: the first ones are what the code writes, digit by digit, and are read as the fraction where it fits them.
-use Prim.Native.Nat.{ℕ, zero, suc, _+_, _*_, _-_, _/_, _%_, _^_, _≤_, _<_}
+use Prim.Native.Nat.{ℕ, suc, _+_, _*_, _-_, _/_, _%_, _^_, _≤_, _<_}
 use mathlib.Core.List.{List}
 use mathlib.Core.Bool.{Bool, true, false}
 use mathlib.Core.Path.{_≡_, refl, sym, ap, _∙_}
 use native.Mathlib.Omega.{arith}
-use native.Mathlib.Nat.{pow-suc, div-one, div-div-eq-div-mul, div-add-mod', div-lt-iff-lt-mul, mul-mod-left, mod-one}
+use native.Mathlib.Nat.{pow-suc, one-le-pow, div-one, div-div-eq-div-mul, div-add-mod', div-lt-iff-lt-mul, mul-mod-left, mod-one}
 use borrow.Author.Tests.{eqb-true, eq-eqb, ltb-true, ltb-false, le-ltb, le-leb, leb-true}
-use lib.Dec.{ltb, leb, eqb}
+use lib.Dec.{ltb, leb}
 use lib.ListN.{length, take}
 use lib.Pow.{pow-add}
 use lib.Seq.{take-all, take-at}
 use Rattle.types.specs.declared.Fraction.{Fraction}
 use Rattle.parser.specs.Digits.{digits, number, nanoseconds, upToNine, fractionOf}
 use Rattle.parser.proofs.Fields.{and-first, and-second}
-use Rattle.runs.proofs.Nanoseconds.{nanoseconds-small, nanoseconds-zero}
-use Rattle.runs.proofs.Factors.{nanoseconds-short}
+use Rattle.parser.proofs.Runs.{AllDigits}
+use Rattle.runs.proofs.Nanoseconds.{nanoseconds-small}
+use Rattle.runs.proofs.Factors.{nanoseconds-short, nanoseconds-zero}
 use Rattle.writing.specs.Spelling.{padded}
-use Rattle.writing.proofs.Digits.{AllDigits, length-padded, number-padded, padded-digits, padded-split}
+use Rattle.writing.proofs.Digits.{length-padded, number-padded, padded-digits, padded-split}
 use Rattle.time_writer.specs.Ranges.{upTo, fractionGiven}
 
 -- ---- the first ones
@@ -43,8 +44,7 @@ first-of-nine k n = go (ltb 9 k) refl
 -- ---- written digit by digit
 
 ten-pow : (k : ℕ) → 1 ≤ 10 ^ k
-ten-pow zero = omega arith
-ten-pow (suc k) = omega (arith, pow-suc 10 k, ten-pow k)
+ten-pow k = one-le-pow k 10 (omega arith)
 
 power : (i unit : ℕ) → unit ≡ 10 ^ (9 - i) → i < 9 → unit ≡ 10 ^ (9 - (i + 1)) * 10
 power i unit e h = let one : 9 - i ≡ suc (9 - (i + 1)) = omega arith in e ∙ rw one (pow-suc 10 (9 - (i + 1)))
@@ -65,6 +65,11 @@ first-digits n i unit e h = div-div-eq-div-mul n (unit / 10) 10 ∙ ap (λ (k : 
 pub record FractionWithin (z : Bool) (f : Fraction) : Type 0 where
   pub nanosecond : f .nanosecond ≤ upTo z 999999999
   pub fits : fractionGiven (f .digits) (f .nanosecond) ≡ true
+
+-- none is wider than document 01's
+pub fraction-day : (z : Bool) {f : Fraction} → FractionWithin z f → FractionWithin false f
+fraction-day false w = w
+fraction-day true w = record { nanosecond = omega (arith, w .nanosecond); fits = w .fits }
 
 pub digits-few : {z : Bool} {f : Fraction} → FractionWithin z f → f .digits ≤ 9
 unfolding fractionGiven
@@ -96,7 +101,7 @@ fraction-back n k h e =
 
 -- ---- and what is read fits
 
-pub fraction-fits : (d : List ℕ) → fractionGiven (fractionOf d .digits) (fractionOf d .nanosecond) ≡ true
+fraction-fits : (d : List ℕ) → fractionGiven (fractionOf d .digits) (fractionOf d .nanosecond) ≡ true
 unfolding fractionGiven
 fraction-fits d = go (ltb 9 (length d)) refl
   where

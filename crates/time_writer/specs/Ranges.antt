@@ -32,7 +32,7 @@ upTo true hi = 0
 unfoldable pub fractionGiven : ℕ → ℕ → Bool
 fractionGiven k n = and (leb k 9) (eqb (n % 10 ^ (9 - k)) 0)
 
--- the fields between the hour and the offset, by the greatest number of each
+-- the fields between the hour and the offset, by the greatest number of each, and a fraction that fits its digits
 abbrev pub behindGiven : ℕ → ℕ → ℕ → Time → Bool
 behindGiven mi se na t =
     and (leb (t .minute) mi) (and (leb (t .second) se) (and (leb (t .nanosecond) na) (fractionGiven (t .digits) (t .nanosecond))))

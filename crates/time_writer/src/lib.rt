@@ -1,5 +1,5 @@
 // The writer of times: `HH:MM:SS`, the digits of the fraction that were written, and the offset.
-ghost use Prim.Native.Nat.{_-_, _/_, _^_, _≤_};
+ghost use Prim.Native.Nat.{ℕ, _-_, _/_, _^_, _≤_};
 ghost use mathlib.Core.Path.{_≡_};
 ghost use lib.ListN.{length};
 ghost use Rattle.parser.specs.Digits.{upToNine};
@@ -45,7 +45,7 @@ fn width(digits: u32) -> usize
 }
 
 // Puts a point and so many digits, nothing where there are none.
-fn put_fraction(out: &mut [u8], at: usize, nanosecond: u32, digits: u32) -> usize
+fn put_fraction(out: &mut [u8], at: usize, digits: u32, nanosecond: u32) -> usize
     ensures { λ r. ⌜ Puts (fractionSpelling digits nanosecond) (now (out .entry)) at (now (out .exit)) r ⌝ }
 {
     if digits == 0 {
@@ -58,8 +58,9 @@ fn put_fraction(out: &mut [u8], at: usize, nanosecond: u32, digits: u32) -> usiz
     put_digits(out, next, nanosecond, width(digits))
 }
 
-fn fraction_length(nanosecond: u32, digits: u32) -> usize
-    ensures { λ r. ⌜ r ≡ length (fractionSpelling digits nanosecond) ⌝ }
+// The length of that, whatever the digits are.
+fn fraction_length(digits: u32) -> usize
+    ensures { λ r. ⌜ ((n : ℕ) → r ≡ length (fractionSpelling digits n)) ⌝ }
 {
     if 0 < digits {
         return width(digits) + 1;
@@ -92,7 +93,7 @@ pub fn put_time(out: &mut [u8], t: Time) -> usize
     ensures { λ r. ⌜ Puts (timeSpelling t) (now (out .entry)) 0 (now (out .exit)) r ⌝ }
 {
     let next = put_clock(out, 0, t.hour, t.minute, t.second);
-    let next = put_fraction(out, next, t.nanosecond, t.digits);
+    let next = put_fraction(out, next, t.digits, t.nanosecond);
     let offset = t.offset;
     put_time_offset(out, next, offset)
 }
@@ -108,13 +109,13 @@ fn time_offset_length(o: TimeOffset) -> Measured
 }
 
 // Whether a nanosecond fits so many digits, at most nine: it has only zeros behind them.
-fn fraction_given(count: u32, nanosecond: u32) -> bool
-    ensures { λ r. ⌜ r ≡ fractionGiven count nanosecond ⌝ }
+fn fraction_given(digits: u32, nanosecond: u32) -> bool
+    ensures { λ r. ⌜ r ≡ fractionGiven digits nanosecond ⌝ }
 {
-    if 9 < count {
+    if 9 < digits {
         return false;
     }
-    nanosecond % runs::unit(count as usize) == 0
+    nanosecond % runs::unit(digits as usize) == 0
 }
 
 // Whether the fields between the hour and the offset are at most these, and the fraction fits its digits.
@@ -133,7 +134,8 @@ fn behind_given(t: Time, minute: u32, second: u32, nanosecond: u32) -> bool
     fraction_given(t.digits, t.nanosecond)
 }
 
-// Whether the fields but the offset lie in their ranges. Hour 24 ends the day: only 2004 has it, and all behind it is 0.
+// Whether the fields but the offset lie in their ranges. Hour 24 ends the day: only 2004 has it, and minute, second and
+// nanosecond behind it are 0.
 fn clock_given(t: Time, choices: Choices) -> bool
     ensures { λ r. ⌜ r ≡ clockGiven (choices .edition) t ⌝ }
 {
@@ -157,9 +159,7 @@ pub fn time_length(t: Time, choices: Choices) -> Measured
     if clock_given(t, choices) {
         let offset = t.offset;
         match time_offset_length(offset) {
-            Measured::Length(n) => Measured::Length(
-                8 + fraction_length(t.nanosecond, t.digits) + n,
-            ),
+            Measured::Length(n) => Measured::Length(8 + fraction_length(t.digits) + n),
             Measured::NoReader => Measured::NoReader,
         }
     } else {

@@ -1,7 +1,5 @@
 // The records that the readers make, the refusals and the verdict, and the small sums over them (types.rs).
 ghost use mathlib.Core.Path.{_≡_};
-ghost use mathlib.Core.Bool.{Bool};
-ghost use lib.IntN.{ℤ, pos};
 ghost use Rattle.types.specs.Sums.{withSign, minutesInAll, inRange, made, secondsOf, isZero, hasTime};
 
 // Whether a longer input could still get another answer.

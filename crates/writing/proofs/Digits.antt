@@ -14,15 +14,11 @@ use Rattle.types.specs.Sums.{withSign}
 use Rattle.parser.specs.Reading.{no, got, lit, pick, within}
 use Rattle.parser.specs.Digits.{isDigit, digitsFrom, field, digits, numberFrom, number, runAt, limit, runAs, run, fractionOf, fraction}
 use Rattle.parser.proofs.Fields.{DigitAt, digitsFrom-suc, digitsFrom-other, digitsFrom-end}
-use Rattle.parser.proofs.Runs.{number-append}
+use Rattle.parser.proofs.Runs.{AllDigits, none, also, number-append}
 use Rattle.parser.proofs.Leaves.{digit-is-not}
 use Rattle.text.specs.Text.{decimal, decimalOf}
 use Rattle.writing.specs.Spelling.{padded}
 use Rattle.writing.proofs.Texts.{ReadAs, Refuses, lit-refuses}
-
-pub data AllDigits : List ℕ → Type 0 where
-  none : AllDigits []
-  also : {b : ℕ} {d : List ℕ} → isDigit b ≡ true → AllDigits d → AllDigits (b ∷ d)
 
 -- whether a digit stands in front
 abbrev pub begins : List ℕ → Bool

@@ -10,7 +10,7 @@ use Rattle.parser.proofs.Fields.{digit-at, below-digits, above-digits}
 use Rattle.parser.proofs.Runs.{run-other, run-end, end-is, end-is-not}
 use Rattle.runs.specs.Read.{fractionAs}
 use Rattle.runs.proofs.Along.{Along, along-start, along-step, fraction-is, ended, past}
-use Rattle.runs.proofs.Nanoseconds.{nanoseconds-zero}
+use Rattle.runs.proofs.Factors.{nanoseconds-zero}
 use Rattle.runs.proofs.take_zeros.Statement.{statement}
 use Rattle.runs.proofs.take_zeros.Tie as tie
 

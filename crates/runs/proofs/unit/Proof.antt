@@ -1,5 +1,5 @@
--- None is worth all nine; more than nine are worth one; else it is the factor of the last one's place.
-use Prim.Native.Nat.{ℕ, _-_, _^_, _<_}
+-- Of no digits a whole second; past nine one nanosecond; else the factor of the last one's place.
+use Prim.Native.Nat.{ℕ, _^_}
 use mathlib.Core.Path.{_≡_, ap, _∙_}
 use native.Mathlib.Omega.{arith}
 use borrow.Author.Needs.{needs}

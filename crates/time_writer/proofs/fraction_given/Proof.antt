@@ -1,5 +1,5 @@
--- The remainder of what the last digit that was written is worth.
-use Prim.Native.Nat.{_-_, _^_}
+-- The remainder by what the last digit that was written is worth.
+use Prim.Native.Nat.{_-_}
 use native.Mathlib.Omega.{arith}
 use native.Mathlib.Nat.{one-le-pow}
 use borrow.Author.Needs.{needs}
@@ -10,11 +10,11 @@ use Rattle.time_writer.proofs.fraction_given.Tie as tie
 
 returns : tie.Need-returns
 unfolding fractionGiven
-returns c = rw (lt-leb (c .before .args .count) 9 (c .if1 .taken))
+returns c = rw (lt-leb (c .before .args .digits) 9 (c .if1 .taken))
 
 returns-2 : tie.Need-returns-2
 unfolding fractionGiven
-returns-2 c = rw (c .unit .ensures, le-leb (c .before .before .args .count) 9 (omega (arith, c .before .if1 .left)))
+returns-2 c = rw (c .unit .ensures, le-leb (c .before .before .args .digits) 9 (omega (arith, c .before .if1 .left)))
 
 pub fraction-given-spec : {M : Type 1} → statement M
 fraction-given-spec =
@@ -22,5 +22,5 @@ fraction-given-spec =
     (tie.spec
     returns
     (λ c κs. search needs)
-    (λ c. omega (arith, c .unit .ensures, one-le-pow (9 - c .before .before .args .count) 10 (omega arith)))
+    (λ c. omega (arith, c .unit .ensures, one-le-pow (9 - c .before .before .args .digits) 10 (omega arith)))
     returns-2)

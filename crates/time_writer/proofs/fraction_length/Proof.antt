@@ -10,14 +10,14 @@ use Rattle.time_writer.proofs.fraction_length.Statement.{statement}
 use Rattle.time_writer.proofs.fraction_length.Tie as tie
 
 returns : tie.Need-returns
-returns c =
+returns c n =
     let some = c .before in
     let args = some .before .args in
-    rw (c .width .ensures) (sym (fraction-some (args .digits) (args .nanosecond) (ne-eqb (args .digits) 0 (λ e. omega (arith, some .if1 .taken)))))
+    rw (c .width .ensures) (sym (fraction-some (args .digits) n (ne-eqb (args .digits) 0 (λ e. omega (arith, some .if1 .taken)))))
 
 returns-2 : tie.Need-returns-2
 unfolding fractionSpelling
-returns-2 c = rw (eq-eqb (c .before .args .digits) 0 (omega (arith, c .if1 .left)))
+returns-2 c n = rw (eq-eqb (c .before .args .digits) 0 (omega (arith, c .if1 .left)))
 
 pub fraction-length-spec : {M : Type 1} → statement M
 fraction-length-spec =

@@ -35,7 +35,7 @@ returns c =
     let k = args .choices in
     let long = measure-long (timeOffsetGiven (t .offset)) (sym (offset .time-offset-length .ensures) ∙ c .before .before .n .given .1) in
     long-measures (readable (time-spells k) t (given k t (sym (clock .before .clock-given .ensures) ∙ clock .if1 .taken) (long .0)))
-    (sym (time-size t ∙ rw (← c .fraction-length .ensures, ← long .1)))
+    (sym (time-size t ∙ rw (← c .fraction-length .ensures (t .nanosecond), ← long .1)))
 
 returns-2 : tie.Need-returns-2
 returns-2 c =
@@ -49,12 +49,12 @@ time-length-spec =
     tie.close
     (tie.spec
     (λ c κs. search needs) (λ c κs. search needs) (λ c. search needs) (λ c κs. search needs)
-    (λ c. let t = c .before .before .before .before .before .before .before .args .t in record { fits = omega (arith, c .fraction-length .ensures, fraction-short (t .digits) (t .nanosecond)) })
+    (λ c. let t = c .before .before .before .before .before .before .before .args .t in record { fits = omega (arith, c .fraction-length .ensures (t .nanosecond), fraction-short (t .digits) (t .nanosecond)) })
     (λ c.
     let offset = c .before .before .before .before in
     let t = offset .before .before .before .args .t in
     let long = measure-long (timeOffsetGiven (t .offset)) (sym (offset .time-offset-length .ensures) ∙ c .before .before .n .given .1) in
-    record { fits = omega (arith, c .fraction-length .ensures, fraction-short (t .digits) (t .nanosecond), long .1, zone-short (t .offset)) })
+    record { fits = omega (arith, c .fraction-length .ensures (t .nanosecond), fraction-short (t .digits) (t .nanosecond), long .1, zone-short (t .offset)) })
     (λ c. search needs)
     returns
     returns-2

@@ -17,8 +17,8 @@ returns c =
 plain-offset-requires : tie.Need-plain-offset-requires
 plain-offset-requires c κs = search needs
 
-mul-t13 : tie.Need-mul-t13
-mul-t13 c = search needs
+mul-nanosecond : tie.Need-mul-nanosecond
+mul-nanosecond c = search needs
 
 with-offset-requires : tie.Need-with-offset-requires
 with-offset-requires c κs = search needs
@@ -45,7 +45,7 @@ plain-time-spec =
     enum-known-clock
     returns
     plain-offset-requires
-    mul-t13
+    mul-nanosecond
     with-offset-requires
     enum-told
     returns-2
