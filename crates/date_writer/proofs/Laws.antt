@@ -13,10 +13,10 @@ use Rattle.types.specs.declared.Date.{Date}
 use Rattle.types.specs.declared.Date.the-variants.{YMD, Week, Ordinal}
 use Rattle.parser.specs.Reading.{lit, opt, and, within}
 use Rattle.parser.specs.Digits.{field}
-use Rattle.parser.specs.Fields.{month, day, signed, precededBy}
+use Rattle.parser.specs.Fields.{signed, precededBy}
 use Rattle.parser.proofs.Fields.{and-first, and-second}
 use Rattle.parser.proofs.Leaves.{From}
-use Rattle.date.specs.Rules.{minus, year, orFirst, oneToSeven, week, dayOfWeek, weekAndDay, wd, mdNumeric, ordinal, ddd, dayOfMonth, monthAndDay, date}
+use Rattle.date.specs.Rules.{minus, year, orFirst, oneToSeven, dayOfWeek, weekAndDay, wd, mdNumeric, ordinal, ddd, dayOfMonth, monthAndDay, date}
 use Rattle.date.specs.Answer.{afterYear}
 use Rattle.date.proofs.Laws.{date-alike}
 use Rattle.writing.specs.Spelling.{padded, yearSpelling, dateSpelling}
