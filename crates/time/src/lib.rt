@@ -1,13 +1,13 @@
 // Times of day (time.rs).
 ghost use mathlib.Core.Path.{_≡_};
 ghost use mathlib.Core.Bool.{true, not};
-ghost use mathlib.Core.Option.{some, none};
+ghost use mathlib.Core.Option.{none};
 ghost use lib.Dec.{eqb};
 ghost use Rattle.parser.specs.Reading.{Says, SaysOn, no, got, and};
 ghost use Rattle.parser.specs.Fields.{either};
 ghost use Rattle.fields.specs.Read.{numberFound, numberMore};
 ghost use Rattle.runs.specs.Read.{fractionFound, runMore};
-ghost use Rattle.time.specs.Rules.{hourOf, endsDay, fractionIf, clockOf, timeOf, millisecond, secondMillisecond, minuteSecondMillisecond, timeOffset, afterHour, baseTime, time};
+ghost use Rattle.time.specs.Rules.{hourOf, endsDay, fractionIf, timeOf, millisecond, secondMillisecond, minuteSecondMillisecond, timeOffset, afterHour, baseTime, time};
 ghost use Rattle.time.specs.Answer.{clockFound, clockMore, timeFound, timeMore};
 use fields::Number;
 use offset::OffsetFound;
@@ -78,28 +78,15 @@ fn fraction_at(s: &[u8], at: usize, zero: bool) -> Run
     }
 }
 
-// A clock with a fraction, and one without.
-fn with_fraction(minute: u32, second: u32, kept: Fraction, next: usize, more: bool) -> ClockFound
-    ensures found { λ r. ⌜ clockFound r ≡ got (clockOf minute second (some kept)) next ⌝ }
+// A clock with its fraction.
+fn clock_with(minute: u32, second: u32, kept: Fraction, next: usize, more: bool) -> ClockFound
+    ensures found { λ r. ⌜ clockFound r ≡ got (record { minute = minute; second = second; fraction = kept }) next ⌝ }
     ensures more { λ r. ⌜ clockMore r ≡ more ⌝ }
 {
     ClockFound::Got {
         minute,
         second,
         fraction: kept,
-        next,
-        more,
-    }
-}
-
-fn no_fraction(minute: u32, second: u32, next: usize, more: bool) -> ClockFound
-    ensures found { λ r. ⌜ clockFound r ≡ got (clockOf minute second none) next ⌝ }
-    ensures more { λ r. ⌜ clockMore r ≡ more ⌝ }
-{
-    ClockFound::Got {
-        minute,
-        second,
-        fraction: Fraction::NONE,
         next,
         more,
     }
@@ -126,7 +113,7 @@ fn time_millisecond(
                     value,
                     next,
                     more: longer,
-                } => with_fraction(
+                } => clock_with(
                     minute,
                     second,
                     runs::fraction_of(value, next - from),
@@ -134,12 +121,12 @@ fn time_millisecond(
                     parser::either_open(more, longer),
                 ),
                 Run::TooBig => ClockFound::Stopped,
-                Run::Wrong => no_fraction(minute, second, at, more),
-                Run::Cut => no_fraction(minute, second, at, true),
+                Run::Wrong => clock_with(minute, second, Fraction::NONE, at, more),
+                Run::Cut => clock_with(minute, second, Fraction::NONE, at, true),
             }
         }
-        Mark::Wrong => no_fraction(minute, second, at, more),
-        Mark::Cut => no_fraction(minute, second, at, true),
+        Mark::Wrong => clock_with(minute, second, Fraction::NONE, at, more),
+        Mark::Cut => clock_with(minute, second, Fraction::NONE, at, true),
     }
 }
 

@@ -2,7 +2,7 @@
 use Prim.Native.Nat.{ℕ, zero, suc, _+_, _*_, _-_, _≤_, _<_}
 use mathlib.Core.List.{List, [], _∷_, _++_}
 use mathlib.Core.Bool.{Bool, true, false}
-use mathlib.Core.Option.{some, none}
+use mathlib.Core.Option.{Option, none}
 use mathlib.Core.Path.{_≡_, refl, sym, ap, _∙_}
 use native.Mathlib.Omega.{arith}
 use borrow.Author.Tests.{ltb-true, ltb-false, lt-leb, leb-true, ne-eqb}
@@ -11,18 +11,21 @@ use lib.ListN.{length, getD, take, drop, replicate, length-append, length-replic
 use lib.Seq.{take-all, take-take, take-append-le, length-take-le}
 use Rattle.types.specs.declared.Choices.{Choices}
 use Rattle.types.specs.declared.Fraction.{Fraction}
+use Rattle.types.specs.declared.Offset.{Offset}
 use Rattle.types.specs.declared.Time.{Time}
-use Rattle.parser.specs.Reading.{Found, no, got, stop, lit, seq, then, opt, lack, alt, orElse, map, mapFound, and, pick}
+use Rattle.parser.specs.Reading.{no, got, stop, Reader, lit, seq, opt, alt, orElse, and, pick}
 use Rattle.parser.specs.Digits.{isDigit, digits, numberFrom, number, runAt, runAs, nanoseconds, fractionOf, fraction}
-use Rattle.parser.specs.Fields.{either}
+use Rattle.parser.specs.Fields.{minute, second, either, precededBy, orZero}
 use Rattle.parser.proofs.Fields.{true≢false, and-first, and-second}
 use Rattle.parser.proofs.Places.{no≢got, stop≢got, got-value, got-place}
 use Rattle.parser.proofs.Runs.{AllDigits, none as no-digit, also, run-digits, zero-digits}
 use Rattle.runs.proofs.Nanoseconds.{nanoseconds-small}
-use Rattle.time.specs.Rules.{Clock, fractionIf, noFraction, clockOf, millisecond, time}
+use Rattle.offset.specs.Rules.{offset}
+use Rattle.time.specs.Rules.{hourOf, endsDay, zeroIf, fractionIf, noFraction, Clock, clockOf, millisecond, secondMillisecond, minuteSecondMillisecond, orMidnight, timeOf, timeOffset, afterHour, baseTime, time}
 use Rattle.writing.specs.Spelling.{padded, fractionSpelling}
 use Rattle.writing.specs.Writing.{Readable}
 use Rattle.writing.proofs.Digits.{length-padded, number-padded, padded-digits}
+use Rattle.writing.proofs.Yields.{seq-found, map-found, OptFound, absent, there, opt-found}
 use Rattle.time_writer.specs.Ranges.{fractionGiven}
 use Rattle.time_writer.proofs.Laws.{time-within, time-spells}
 
@@ -76,60 +79,96 @@ fraction-kept l some-digit = go (ltb 9 (length d)) refl
 
 -- what a clock has of the text at a place: a comma or point and digits stand there and are read, or nothing is
 pub data Keeps (s : List ℕ) (at : ℕ) (c : Clock) (n : ℕ) : Type 0 where
-  nothing : n ≡ at → c .fraction ≡ noFraction → Keeps s at c n
-  digits-at : n ≡ at + 1 + length (runAt s (at + 1)) → fractionSpelling (c .fraction .digits) (c .fraction .nanosecond) ≡ 46 ∷ take 9 (runAt s (at + 1)) → Keeps s at c n
+  nothing : at ≡ n → noFraction ≡ c .fraction → Keeps s at c n
+  digits-at : either 44 46 .reads s at ≡ got tt (at + 1) → at + 1 + length (runAt s (at + 1)) ≡ n → fractionSpelling (c .fraction .digits) (c .fraction .nanosecond) ≡ 46 ∷ take 9 (runAt s (at + 1)) → Keeps s at c n
 
-point-place : (s : List ℕ) (at : ℕ) (u : Unit) (m : ℕ) → either 44 46 .reads s at ≡ got u m → m ≡ at + 1
+point-place : (s : List ℕ) (at : ℕ) (u : Unit) (m : ℕ) → either 44 46 .reads s at ≡ got u m → at + 1 ≡ m
 unfolding alt lit
 point-place s at u m e = go (and (ltb at (length s)) (eqb (getD s at 0) 44)) (and (ltb at (length s)) (eqb (getD s at 0) 46)) e
   where
-    go : (t v : Bool) → orElse (pick t (got tt (at + 1)) no) (pick v (got tt (at + 1)) no) ≡ got u m → m ≡ at + 1
-    go true v e = sym (got-place e)
-    go false true e = sym (got-place e)
+    go : (t v : Bool) → orElse (pick t (got tt (at + 1)) no) (pick v (got tt (at + 1)) no) ≡ got u m → at + 1 ≡ m
+    go true v e = got-place e
+    go false true e = got-place e
     go false false e = absurd (no≢got e)
 
 -- what either leaf reads
-record Run (s : List ℕ) (at : ℕ) (f : Fraction) (n : ℕ) : Type 0 where
+record ReadRun (s : List ℕ) (at : ℕ) (f : Fraction) (n : ℕ) : Type 0 where
   some-digit : 0 < length (runAt s at)
   is : fractionOf (runAt s at) ≡ f
   ends : at + length (runAt s at) ≡ n
 
-run-of : (z : Bool) (s : List ℕ) (at : ℕ) (f : Fraction) (n : ℕ) → fractionIf z .reads s at ≡ got f n → Run s at f n
+run-of : (z : Bool) (s : List ℕ) (at : ℕ) (f : Fraction) (n : ℕ) → fractionIf z .reads s at ≡ got f n → ReadRun s at f n
 unfolding fraction runAs
 run-of z s at f n e = go z (runAt s at) refl e
   where
-    made : (d : List ℕ) → runAt s at ≡ d → 0 < length d → got (fractionOf d) (at + length d) ≡ got f n → Run s at f n
+    made : (d : List ℕ) → runAt s at ≡ d → 0 < length d → got (fractionOf d) (at + length d) ≡ got f n → ReadRun s at f n
     made d i h e = record { some-digit = rw i h; is = rw i (got-value e); ends = rw i (got-place e) }
 
-    go : (z : Bool) (d : List ℕ) → runAt s at ≡ d → fractionIf z .reads s at ≡ got f n → Run s at f n
+    go : (z : Bool) (d : List ℕ) → runAt s at ≡ d → fractionIf z .reads s at ≡ got f n → ReadRun s at f n
     go false [] i e = absurd (no≢got (rw i at e))
     go false (b ∷ d) i e = made (b ∷ d) i (omega arith) (rw i at e)
     go true [] i e = absurd (no≢got (rw i at e))
     go true (b ∷ d) i e = zero (leb (number (b ∷ d)) 0) (rw i at e)
       where
-        zero : (t : Bool) → pick t (got (fractionOf (b ∷ d)) (at + length (b ∷ d))) (stop 1) ≡ got f n → Run s at f n
+        zero : (t : Bool) → pick t (got (fractionOf (b ∷ d)) (at + length (b ∷ d))) (stop 1) ≡ got f n → ReadRun s at f n
         zero true e = made (b ∷ d) i (omega arith) e
         zero false e = absurd (stop≢got e)
 
 pub kept : (z : Bool) (mi se : ℕ) (s : List ℕ) (at : ℕ) (c : Clock) (n : ℕ) → millisecond z mi se .reads s at ≡ got c n → Keeps s at c n
-unfolding millisecond map opt seq
-kept z mi se s at c n e = go (either 44 46 .reads s at) refl e
+unfolding millisecond
+kept z mi se s at c n e =
+    let m = map-found (clockOf mi se) (opt point) s at c n e in
+    rw (← m .is) (go (m .value) (opt-found point s at (m .value) n (m .reads)))
   where
-    absent : got (clockOf mi se none) at ≡ got c n → Keeps s at c n
-    absent e = let same : clockOf mi se none ≡ c = got-value e in nothing (sym (got-place e)) (rw (← same))
+    point : Reader Fraction
+    point = seq (either 44 46) (λ _. fractionIf z)
 
-    read : (m : ℕ) → m ≡ at + 1 → (x : Found Fraction) → fractionIf z .reads s m ≡ x → mapFound (clockOf mi se) (lack at x) ≡ got c n → Keeps s at c n
-    read m here no ex e = absent e
-    read m here (stop r) ex e = absurd (stop≢got e)
-    read m here (got f k) ex e =
-        let r = run-of z s m f k ex in
-        let same : clockOf mi se (some f) ≡ c = got-value e in
-        rw (← same) (digits-at (rw here at (sym (got-place e) ∙ sym (r .ends))) (rw (← r .is, here) (fraction-kept (drop (at + 1) s) (rw here at (r .some-digit)))))
+    go : (o : Option Fraction) → OptFound point s at o n → Keeps s at (clockOf mi se o) n
+    go o (absent eo here) = rw (← eo) (nothing here refl)
+    go o (there f eo r) =
+        let x = seq-found (either 44 46) (λ _. fractionIf z) s at f n r in
+        let p = point-place s at (x .value) (x .place) (x .first) in
+        let d = run-of z s (at + 1) f n (rw (← p) at (x .rest)) in
+        rw (← eo) (digits-at (rw (← p) at (x .first)) (d .ends) (rw (← d .is) (fraction-kept (drop (at + 1) s) (d .some-digit))))
 
-    go : (x : Found Unit) → either 44 46 .reads s at ≡ x → mapFound (clockOf mi se) (lack at (then x (λ _ m. fractionIf z .reads s m))) ≡ got c n → Keeps s at c n
-    go no ex e = absent e
-    go (stop r) ex e = absurd (stop≢got e)
-    go (got u m) ex e = read m (point-place s at u m ex) (fractionIf z .reads s m) refl e
+-- the fraction of a time that was read: the text has a comma or point somewhere, and the fraction is written as a point and the first nine
+-- digits behind it; or it is written as nothing
+pub data TextsOwn (s : List ℕ) (t : Time) : Type 0 where
+  without : fractionSpelling (t .digits) (t .nanosecond) ≡ [] → TextsOwn s t
+  from : (at : ℕ) → either 44 46 .reads s at ≡ got tt (at + 1) → fractionSpelling (t .digits) (t .nanosecond) ≡ 46 ∷ take 9 (runAt s (at + 1)) → TextsOwn s t
+
+no-fraction-own : (s : List ℕ) (h : ℕ) (c : Clock) (o : Option Offset) → noFraction ≡ c .fraction → TextsOwn s (timeOf h c o)
+unfolding fractionSpelling
+no-fraction-own s h c o e = without (rw (← e))
+
+clock-own : (s : List ℕ) (z : Bool) (h : ℕ) (c : Clock) (o : Option Offset) (at n : ℕ) → minuteSecondMillisecond z .reads s at ≡ got c n → TextsOwn s (timeOf h c o)
+unfolding minuteSecondMillisecond secondMillisecond
+clock-own s z h c o at n e =
+    let x = seq-found (precededBy 58 (zeroIf z minute)) (secondMillisecond z) s at c n e in
+    let y = seq-found (opt (precededBy 58 (zeroIf z second))) (λ se. millisecond z (x .value) (orZero se)) s (x .place) c n (x .rest) in
+    go (kept z (x .value) (orZero (y .value)) s (y .place) c n (y .rest))
+  where
+    go : {p : ℕ} → Keeps s p c n → TextsOwn s (timeOf h c o)
+    go (nothing here e) = no-fraction-own s h c o e
+    go {p} (digits-at point ends is) = from p point is
+
+pub base-own : (c : Choices) (s : List ℕ) (at : ℕ) (t : Time) (n : ℕ) → baseTime c .reads s at ≡ got t n → TextsOwn s t
+unfolding baseTime afterHour timeOffset
+base-own c s at t n e =
+    let x = seq-found (hourOf (c .edition)) (λ h. afterHour (endsDay (c .edition) h) h) s at t n e in
+    let z = endsDay (c .edition) (x .value) in
+    let y = seq-found (opt (minuteSecondMillisecond z)) (λ k. timeOffset (x .value) (orMidnight k)) s (x .place) t n (x .rest) in
+    let m = map-found (timeOf (x .value) (orMidnight (y .value))) (opt offset) s (y .place) t n (y .rest) in
+    rw (← m .is) (go z (x .value) (m .value) (y .value) (opt-found (minuteSecondMillisecond z) s (x .place) (y .value) (y .place) (y .first)))
+  where
+    go : (z : Bool) (h : ℕ) (o : Option Offset) (k : Option Clock) {from to : ℕ} → OptFound (minuteSecondMillisecond z) s from k to → TextsOwn s (timeOf h (orMidnight k) o)
+    go z h o k (absent e here) = rw (← e) (no-fraction-own s h (orMidnight none) o refl)
+    go z h o k {from} {to} (there a e r) = rw (← e) (clock-own s z h a o from to r)
+
+-- of every text that is read as a time, under every edition
+pub time-own : (c : Choices) (s : List ℕ) (at : ℕ) (t : Time) (n : ℕ) → time c .reads s at ≡ got t n → TextsOwn s t
+unfolding time
+time-own c s at t n e = let x = seq-found (opt (lit 84)) (λ _. baseTime c) s at t n e in base-own c s (x .place) t n (x .rest)
 
 -- ---- what does not fit
 

@@ -79,10 +79,6 @@ module _ {A : Type 0} {p : Reader A} where
   unfolding verify
   verify-reads f e h = record { reads = λ a. rw (h .reads a, e) }
 
-  pub verify-refuses : (f : A → Bool) {x : List ℕ} → Refuses p x → Refuses (verify f p) x
-  unfolding verify
-  verify-refuses f h = record { finds = λ a. rw (h .finds a) }
-
   pub must-reads : (f : A → Bool) (r : ℕ) {t x : List ℕ} {v : A} → f v ≡ true → ReadAs p t x v → ReadAs (must f r p) t x v
   unfolding must
   must-reads f r e h = record { reads = λ a. rw (h .reads a, e) }

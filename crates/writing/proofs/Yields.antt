@@ -3,7 +3,7 @@ use Prim.Native.Nat.{ℕ, _+_, _≤_}
 use mathlib.Core.List.{List, [], _∷_}
 use mathlib.Core.Bool.{Bool, true, false}
 use mathlib.Core.Option.{Option, some, none}
-use mathlib.Core.Path.{_≡_, refl}
+use mathlib.Core.Path.{_≡_, refl, ap, _∙_}
 use native.Mathlib.Omega.{arith}
 use borrow.Author.Tests.{leb-true}
 use lib.Dec.{leb}
@@ -12,8 +12,54 @@ use Rattle.types.specs.declared.Fraction.{Fraction}
 use Rattle.parser.specs.Reading.{Found, no, got, stop, Reader, then, lack, orElse, keep, keepOrStop, mapFound, lit, seq, opt, alt, verify, must, map, give, pick}
 use Rattle.parser.specs.Digits.{field, digits, number, ofRun, limit, runAs, run, fractionOf, fraction}
 use Rattle.parser.specs.Fields.{precededBy, orZero}
-use Rattle.parser.proofs.Places.{no≢got, stop≢got, got-value}
+use Rattle.parser.proofs.Places.{no≢got, stop≢got, got-value, got-place}
 use Rattle.parser.proofs.Leaves.{From, field-within}
+
+-- ---- what was found, by what its parts found
+
+pub record SeqFound {A B : Type 0} (p : Reader A) (q : A → Reader B) (s : List ℕ) (at : ℕ) (b : B) (n : ℕ) : Type 0 where
+  pub value : A
+  pub place : ℕ
+  pub first : p .reads s at ≡ got value place
+  pub rest : q value .reads s place ≡ got b n
+
+pub seq-found : {A B : Type 0} (p : Reader A) (q : A → Reader B) (s : List ℕ) (at : ℕ) (b : B) (n : ℕ) → seq p q .reads s at ≡ got b n → SeqFound p q s at b n
+unfolding seq
+seq-found {A} p q s at b n e = go (p .reads s at) refl e
+  where
+    go : (x : Found A) → p .reads s at ≡ x → then x (λ a m. q a .reads s m) ≡ got b n → SeqFound p q s at b n
+    go no ex e = absurd (no≢got e)
+    go (stop r) ex e = absurd (stop≢got e)
+    go (got a m) ex e = record { value = a; place = m; first = ex; rest = e }
+
+pub record MapFound {A B : Type 0} (f : A → B) (p : Reader A) (s : List ℕ) (at : ℕ) (b : B) (n : ℕ) : Type 0 where
+  pub value : A
+  pub reads : p .reads s at ≡ got value n
+  pub is : f value ≡ b
+
+pub map-found : {A B : Type 0} (f : A → B) (p : Reader A) (s : List ℕ) (at : ℕ) (b : B) (n : ℕ) → map f p .reads s at ≡ got b n → MapFound f p s at b n
+unfolding map
+map-found {A} f p s at b n e = go (p .reads s at) refl e
+  where
+    go : (x : Found A) → p .reads s at ≡ x → mapFound f x ≡ got b n → MapFound f p s at b n
+    go no ex e = absurd (no≢got e)
+    go (stop r) ex e = absurd (stop≢got e)
+    go (got a m) ex e = record { value = a; reads = ex ∙ ap (got a) (got-place e); is = got-value e }
+
+pub data OptFound {A : Type 0} (p : Reader A) (s : List ℕ) (at : ℕ) (o : Option A) (n : ℕ) : Type 0 where
+  absent : none ≡ o → at ≡ n → OptFound p s at o n
+  there : (a : A) → some a ≡ o → p .reads s at ≡ got a n → OptFound p s at o n
+
+pub opt-found : {A : Type 0} (p : Reader A) (s : List ℕ) (at : ℕ) (o : Option A) (n : ℕ) → opt p .reads s at ≡ got o n → OptFound p s at o n
+unfolding opt
+opt-found {A} p s at o n e = go (p .reads s at) refl e
+  where
+    go : (x : Found A) → p .reads s at ≡ x → lack at x ≡ got o n → OptFound p s at o n
+    go no ex e = absent (got-value e) (got-place e)
+    go (stop r) ex e = absurd (stop≢got e)
+    go (got a m) ex e = there a (got-value e) (ex ∙ ap (got a) (got-place e))
+
+-- ---- one law for each combinator
 
 pub record Yields {A : Type 0} (F : A → Type 0) (p : Reader A) : Type 0 where
   pub fact : (s : List ℕ) (at : ℕ) (a : A) (n : ℕ) → p .reads s at ≡ got a n → F a
@@ -25,13 +71,7 @@ OrLeftOut E (some a) = E a
 
 module _ {A B : Type 0} {E : A → Type 0} {F : B → Type 0} {p : Reader A} (q : A → Reader B) where
   pub seq-yields : Yields E p → ((a : A) → E a → Yields F (q a)) → Yields F (seq p q)
-  unfolding seq
-  seq-yields h k = record { fact = λ s at b n e. go s (p .reads s at) b n (h .fact s at) e }
-    where
-      go : (s : List ℕ) (f : Found A) (b : B) (n : ℕ) → ((a : A) (m : ℕ) → f ≡ got a m → E a) → then f (λ a m. q a .reads s m) ≡ got b n → F b
-      go s no b n g e = absurd (no≢got e)
-      go s (stop r) b n g e = absurd (stop≢got e)
-      go s (got a m) b n g e = k a (g a m refl) .fact s m b n e
+  seq-yields h k = record { fact = λ s at b n e. let f = seq-found p q s at b n e in k (f .value) (h .fact s at (f .value) (f .place) (f .first)) .fact s (f .place) b n (f .rest) }
 
 -- a value that is kept by a test passed it, where what stands for a failure is no value
 tested : {A : Type 0} {E F : A → Type 0} {a b : A} {n : ℕ} (f : A → Bool) → ((a : A) → E a → f a ≡ true → F a) → (x : Found A) (m : ℕ) → (x ≡ got b n → ⊥) → (t : Bool) → f a ≡ t → E a → pick t (got a m) x ≡ got b n → F b
@@ -40,22 +80,14 @@ tested f i x m never false t g e = absurd (never e)
 
 module _ {A : Type 0} {E : A → Type 0} {p : Reader A} where
   pub map-yields : {B : Type 0} {F : B → Type 0} (f : A → B) → ((a : A) → E a → F (f a)) → Yields E p → Yields F (map f p)
-  unfolding map
-  map-yields {B} {F} f i h = record { fact = λ s at b n e. go (p .reads s at) b n (h .fact s at) e }
-    where
-      go : (x : Found A) (b : B) (n : ℕ) → ((a : A) (m : ℕ) → x ≡ got a m → E a) → mapFound f x ≡ got b n → F b
-      go no b n g e = absurd (no≢got e)
-      go (stop r) b n g e = absurd (stop≢got e)
-      go (got a m) b n g e = let same : f a ≡ b = got-value e in rw (← same) (i a (g a m refl))
+  map-yields f i h = record { fact = λ s at b n e. let m = map-found f p s at b n e in rw (← m .is) (i (m .value) (h .fact s at (m .value) n (m .reads))) }
 
   pub opt-yields : Yields E p → Yields (OrLeftOut E) (opt p)
-  unfolding opt
-  opt-yields h = record { fact = λ s at b n e. go at (p .reads s at) b n (h .fact s at) e }
+  opt-yields h = record { fact = λ s at o n e. go s at o n (opt-found p s at o n e) }
     where
-      go : (at : ℕ) (x : Found A) (b : Option A) (n : ℕ) → ((a : A) (m : ℕ) → x ≡ got a m → E a) → lack at x ≡ got b n → OrLeftOut E b
-      go at no b n g e = let same : none ≡ b = got-value e in rw (← same) tt
-      go at (stop r) b n g e = absurd (stop≢got e)
-      go at (got a m) b n g e = let same : some a ≡ b = got-value e in rw (← same) (g a m refl)
+      go : (s : List ℕ) (at : ℕ) (o : Option A) (n : ℕ) → OptFound p s at o n → OrLeftOut E o
+      go s at o n (absent e _) = rw (← e) tt
+      go s at o n (there a e r) = rw (← e) (h .fact s at a n r)
 
   pub alt-yields : {q : Reader A} → Yields E p → Yields E q → Yields E (alt p q)
   unfolding alt

@@ -61,7 +61,7 @@ returns c =
     let a = d .before .before .before .before .before .before .before .before .args in
     let mark = rw (d .before .before .before .before .mark .given .1) at (d .before .before .before .before .before .before .one-of .ensures) in
     let frac = rw (d .fraction .given .1) at (d .before .before .fraction-at .ensures) in
-    rw (c .with-fraction .ensures .0, c .with-fraction .ensures .1, fraction-by (made .fraction-of .ensures .0) (made .fraction-of .ensures .1))
+    rw (c .clock-with .ensures .0, c .clock-with .ensures .1, fraction-by (made .fraction-of .ensures .0) (made .fraction-of .ensures .1))
     (there (a .zero) (a .minute) (a .second) (a .s .now) (a .at) (a .more) _ _ _ _ (says-seq-got (either 44 46) (a .s .now) (a .at) (λ _. fractionIf (a .zero)) tt _ false _ _ mark frac) (c .before .either-open .ensures))
 
 returns-2 : tie.Need-returns-2
@@ -76,26 +76,26 @@ returns-3 c =
     let a = c .before .before .before .before .before .before .before .before .before .args in
     let mark = rw (c .before .before .before .before .before .mark .given .1) at (c .before .before .before .before .before .before .before .one-of .ensures) in
     let frac = rw (c .before .enum-told2 .given .1) at (c .before .before .before .fraction-at .ensures) in
-    rw (c .no-fraction .ensures .0, c .no-fraction .ensures .1) (left-out (a .zero) (a .minute) (a .second) (a .s .now) (a .at) (a .more) _ false (says-seq-got (either 44 46) (a .s .now) (a .at) (λ _. fractionIf (a .zero)) tt _ false _ _ mark frac) (sym (or-false (a .more))))
+    rw (c .clock-with2 .ensures .0, c .clock-with2 .ensures .1) (left-out (a .zero) (a .minute) (a .second) (a .s .now) (a .at) (a .more) _ false (says-seq-got (either 44 46) (a .s .now) (a .at) (λ _. fractionIf (a .zero)) tt _ false _ _ mark frac) (sym (or-false (a .more))))
 
 returns-4 : tie.Need-returns-4
 returns-4 c =
     let a = c .before .before .before .before .before .before .before .before .before .args in
     let mark = rw (c .before .before .before .before .before .mark .given .1) at (c .before .before .before .before .before .before .before .one-of .ensures) in
     let frac = rw (c .before .enum-told3 .given .1) at (c .before .before .before .fraction-at .ensures) in
-    rw (c .no-fraction2 .ensures .0, c .no-fraction2 .ensures .1) (left-out (a .zero) (a .minute) (a .second) (a .s .now) (a .at) (a .more) _ true (says-seq-got (either 44 46) (a .s .now) (a .at) (λ _. fractionIf (a .zero)) tt _ false _ _ mark frac) (sym (or-true (a .more))))
+    rw (c .clock-with3 .ensures .0, c .clock-with3 .ensures .1) (left-out (a .zero) (a .minute) (a .second) (a .s .now) (a .at) (a .more) _ true (says-seq-got (either 44 46) (a .s .now) (a .at) (λ _. fractionIf (a .zero)) tt _ false _ _ mark frac) (sym (or-true (a .more))))
 
 returns-5 : tie.Need-returns-5
 returns-5 c =
     let a = c .before .before .before .before .before .args in
     let mark = rw (c .before .enum-told4 .given .1) at (c .before .before .before .one-of .ensures) in
-    rw (c .no-fraction3 .ensures .0, c .no-fraction3 .ensures .1) (left-out (a .zero) (a .minute) (a .second) (a .s .now) (a .at) (a .more) _ false (says-seq-no (either 44 46) (a .s .now) (a .at) (λ _. fractionIf (a .zero)) false mark) (sym (or-false (a .more))))
+    rw (c .clock-with4 .ensures .0, c .clock-with4 .ensures .1) (left-out (a .zero) (a .minute) (a .second) (a .s .now) (a .at) (a .more) _ false (says-seq-no (either 44 46) (a .s .now) (a .at) (λ _. fractionIf (a .zero)) false mark) (sym (or-false (a .more))))
 
 returns-6 : tie.Need-returns-6
 returns-6 c =
     let a = c .before .before .before .before .before .args in
     let mark = rw (c .before .enum-told5 .given .1) at (c .before .before .before .one-of .ensures) in
-    rw (c .no-fraction4 .ensures .0, c .no-fraction4 .ensures .1) (left-out (a .zero) (a .minute) (a .second) (a .s .now) (a .at) (a .more) _ true (says-seq-no (either 44 46) (a .s .now) (a .at) (λ _. fractionIf (a .zero)) true mark) (sym (or-true (a .more))))
+    rw (c .clock-with5 .ensures .0, c .clock-with5 .ensures .1) (left-out (a .zero) (a .minute) (a .second) (a .s .now) (a .at) (a .more) _ true (says-seq-no (either 44 46) (a .s .now) (a .at) (λ _. fractionIf (a .zero)) true mark) (sym (or-true (a .more))))
 
 pub time-millisecond-spec : {M : Type 1} → statement M
 time-millisecond-spec =
