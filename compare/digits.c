@@ -3,7 +3,10 @@
  *
  * What has to come out is reckoned here, from the request: DIGITS is 0 to 9, the fraction's nine digits have only zeros behind the first
  * DIGITS, and these are written, behind a point if there are any; else the number is 4. A text with more than nine digits is read as one
- * with nine. With one slot fewer than there are nothing is read or written.
+ * with nine. With one slot fewer than there are nothing is read or written. So it is under all choices; one more names none.
+ *
+ * Then texts with a fraction behind the minute and behind the hour: in the standard reading its nine digits are that many times 60 or 3,600
+ * nanoseconds, and DIGITS is 0 or 9; in the old one they are nanoseconds behind the minute, and behind the hour bytes left over.
  *
  * Exit status: 0 all calls did so, and their number is printed; 1 one did not.
  */
@@ -22,7 +25,7 @@ struct kind {
     uint32_t (*read)(const uint8_t *text, size_t length, int64_t *slots, size_t room, uint32_t choices);
     uint32_t (*write)(int64_t *slots, size_t room, uint8_t *text, size_t length, uint32_t choices);
     size_t slots;
-    size_t nanosecond;
+    size_t nanosecond; /* in front of it stand the second, and the minute */
     size_t digits;
     const char *front;
 };
@@ -96,6 +99,31 @@ static void read_back(const struct kind *kind, const char *text, int64_t nanosec
     expect(memcmp(slots, wanted, sizeof slots) == 0, "few slots, and written", nanosecond, digits);
 }
 
+/* Reads a fraction of so many digits behind the kind's hour, or minute, where the front has only that. */
+static void behind_unit(const struct kind *kind, int64_t nanosecond, int64_t digits, int by_hour, const char *point, uint32_t choices)
+{
+    int64_t slots[ROOM], all, unit = 1;
+    char text[ROOM], nine[32];
+    size_t length = strlen(kind->front) - (by_hour ? 6 : 3);
+    int standard = choices >= TIROZHBAR_STANDARD, counted;
+    int64_t at;
+
+    snprintf(nine, sizeof nine, "%09" PRId64, nanosecond);
+    snprintf(text, sizeof text, "%.*s%s%.*s", (int)length, kind->front, point, (int)digits, nine);
+    for (at = digits; at < 9; at++)
+        unit *= 10;
+    all = nanosecond / unit * unit * (standard ? by_hour ? 3600 : 60 : 1);
+    expect(kind->read((const uint8_t *)text, strlen(text), slots, kind->slots, choices) == (by_hour && !standard ? 3u : 0u), "behind a unit", nanosecond, digits);
+    expect(slots[0] == (int64_t)(by_hour && !standard ? length : strlen(text)), "its count", nanosecond, digits);
+    if (by_hour && !standard)
+        return;
+    counted = all % 1000000000 == 0 ? 0 : 9;
+    expect(slots[kind->nanosecond - 2] == (by_hour ? 0 : 56) + all / 60000000000, "its minute", nanosecond, digits);
+    expect(slots[kind->nanosecond - 1] == all / 1000000000 % 60, "its second", nanosecond, digits);
+    expect(slots[kind->nanosecond] == all % 1000000000, "its nanosecond", nanosecond, digits);
+    expect(slots[kind->digits] == (standard ? counted : digits), "its digits", nanosecond, digits);
+}
+
 static void try(const struct kind *kind, int64_t nanosecond, int64_t digits, uint32_t choices)
 {
     int64_t slots[ROOM];
@@ -133,11 +161,21 @@ int main(void)
     int64_t scale;
 
     for (k = 0; k < sizeof kinds / sizeof *kinds; k++)
-        for (choices = TIROZHBAR_2019; choices <= TIROZHBAR_2004; choices++)
+        for (choices = TIROZHBAR_2019; choices <= (TIROZHBAR_STANDARD | TIROZHBAR_2004); choices++)
             for (p = 0; p < sizeof parts / sizeof *parts; p++)
-                for (scale = 1; scale <= 1000000000; scale *= 10)
+                for (scale = 1; scale <= 1000000000; scale *= 10) {
                     for (c = 0; c < sizeof counts / sizeof *counts; c++)
                         try(&kinds[k], parts[p] * scale, counts[c], choices);
+                    for (c = 1; c <= 9 && parts[p] >= 0 && parts[p] * scale <= 999999999; c++) {
+                        behind_unit(&kinds[k], parts[p] * scale, (int64_t)c, 0, ".", choices);
+                        behind_unit(&kinds[k], parts[p] * scale, (int64_t)c, 1, ",", choices);
+                    }
+                }
+    for (k = 0; k < sizeof kinds / sizeof *kinds; k++) {
+        int64_t slots[ROOM] = {0};
+
+        expect(kinds[k].read((const uint8_t *)kinds[k].front, strlen(kinds[k].front), slots, ROOM, choices) == TIROZHBAR_NO_SUCH_CHOICE, "no choice", 0, 0);
+    }
     printf("%lu checks, all as they have to be\n", calls);
     return 0;
 }

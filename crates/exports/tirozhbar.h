@@ -34,12 +34,16 @@
  *
  * After anything but 0 all bytes at TEXT are as they were, and the bytes behind the text always are. No 0 byte is put behind it.
  *
- * Times and date-times are read and written under CHOICES, a number that names the edition of ISO 8601:
+ * Times and date-times are read and written under CHOICES, a number that names the edition of ISO 8601 and what a fraction counts as:
  *
  *     TIROZHBAR_2019              0  hours are 00 to 23
  *     TIROZHBAR_2004              1  so is 24, the end of a day
+ *     TIROZHBAR_STANDARD          2  added to one of these: a fraction is one of the smallest unit written
  *
- * Any other number gets 254, before ROOM is looked at. Under 2004 hour 24 is a record if the minute and the second that are read and every
+ * Any other number gets 254, before ROOM is looked at. Without TIROZHBAR_STANDARD a fraction is one of a second, also where no second was
+ * written, and none may follow an hour. With it 21:56.5 is 21:56:30, and 21.5 is 21:30:00: of the digits the first nine count, that many
+ * times 60 nanoseconds after a minute and 3600 after an hour. DIGITS is then 0 where the nanosecond is 0, and 9 elsewhere. After a second
+ * nothing differs. What either leaves is written alike, with its second, and is read back by both. Under 2004 hour 24 is a record if the minute and the second that are read and every
  * digit of the fraction are 0; else the number is 1. The record's hour is 24, and a date-time keeps the date that stands before it. Such a
  * record is written for 2004 alone: for 2019 no reader leaves it, and the number is 4.
  *
@@ -75,7 +79,7 @@ enum {
 };
 
 /* The choices. */
-enum { TIROZHBAR_2019 = 0, TIROZHBAR_2004 = 1 };
+enum { TIROZHBAR_2019 = 0, TIROZHBAR_2004 = 1, TIROZHBAR_STANDARD = 2 };
 
 enum { TIROZHBAR_SETTLED = 0, TIROZHBAR_OPEN = 1, TIROZHBAR_NO_VERDICT = -1 };
 
@@ -86,7 +90,7 @@ enum { TIROZHBAR_COUNT = 0, TIROZHBAR_VERDICT = 1 };
 enum { TIROZHBAR_OFFSET_HOURS = 2, TIROZHBAR_OFFSET_MINUTES = 3, TIROZHBAR_OFFSET_SLOTS = 4 };
 
 /* A time. Without an offset its three slots are 0; with one, GIVEN is 1. DIGITS is the number of digits that the fraction was written with,
- * 9 where they were more; without a fraction it is 0. */
+ * 9 where they were more; without a fraction it is 0. (After a minute or an hour with TIROZHBAR_STANDARD: see above.) */
 enum {
     TIROZHBAR_TIME_HOUR = 2,
     TIROZHBAR_TIME_MINUTE = 3,

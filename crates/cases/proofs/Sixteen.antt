@@ -58,7 +58,7 @@ each f (a ∷ l) = f a ∷ each f l
 
 -- the test: the rules make of every row what it states
 sixteen-compute : each computed table ≡ each stated table
-unfolding stated computed asked each table lit seq opt alt verify map give field digitsFrom digitsMore reach lowest highest digits numberFrom runAs fraction offset-rules.offsetMinute offset-rules.offsetHour offset-rules.offsetZulu offset-rules.offset time-rules.millisecond time-rules.secondMillisecond time-rules.minuteSecondMillisecond time-rules.timeOffset time-rules.afterHour time-rules.baseTime time-rules.time date-rules.year date-rules.dayOfWeek date-rules.weekAndDay date-rules.mdNumeric date-rules.ordinal date-rules.dayOfMonth date-rules.monthAndDay date-rules.date datetime-rules.timeOf datetime-rules.afterDate datetime-rules.dateTime duration-rules.part duration-rules.durationBaseTime duration-rules.durationTime duration-rules.partsRule duration-rules.duration
+unfolding stated computed asked each table lit seq opt alt verify map give field digitsFrom digitsMore reach lowest highest digits numberFrom runAs fraction offset-rules.offsetMinute offset-rules.offsetHour offset-rules.offsetZulu offset-rules.offset time-rules.timeFraction time-rules.millisecond time-rules.secondMillisecond time-rules.minuteSecondMillisecond time-rules.behindHour time-rules.timeOffset time-rules.afterHour time-rules.baseTime time-rules.time date-rules.year date-rules.dayOfWeek date-rules.weekAndDay date-rules.mdNumeric date-rules.ordinal date-rules.dayOfMonth date-rules.monthAndDay date-rules.date datetime-rules.timeOf datetime-rules.afterDate datetime-rules.dateTime duration-rules.part duration-rules.durationBaseTime duration-rules.durationTime duration-rules.partsRule duration-rules.duration
 sixteen-compute = refl
 
 -- what is said where something is named

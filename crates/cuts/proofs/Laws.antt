@@ -67,6 +67,6 @@ says-short l t a = go (questionOf l) refl a
 pub line-short : (l t : List ℕ) → SaysLine l t → length t ≤ 16384
 line-short l t a = rw (a .ends, length-append (a .said) (10 ∷ [])) (omega (arith, says-short l (a .said) (a .says)))
 
--- what is said of the first 204 bytes of a line, or more of them, is said of the line
-pub says-clip : (limit : ℕ) (l t : List ℕ) → 204 ≤ limit → SaysLine (take limit l) t → SaysLine l t
+-- what is said of the first 205 bytes of a line, or more of them, is said of the line
+pub says-clip : (limit : ℕ) (l t : List ℕ) → 205 ≤ limit → SaysLine (take limit l) t → SaysLine l t
 says-clip limit l t h a = record { said = a .said; says = said-clip headOf (λ m. head-size m .1) (λ q s. SaysTo q s (a .said)) (λ s u e. e) limit l h (a .says); ends = a .ends }

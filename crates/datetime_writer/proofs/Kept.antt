@@ -11,7 +11,7 @@ use Rattle.datetime.specs.Rules.{stamp, timeOf, afterDate, dateTime}
 use Rattle.writing.proofs.Yields.{seq-found, map-found}
 use Rattle.time_writer.proofs.Kept.{TextsOwn, base-own}
 
-pub datetime-own : (c : Choices) (s : List ℕ) (at : ℕ) (x : DateTime) (n : ℕ) → dateTime c .reads s at ≡ got x n → TextsOwn s (x .time)
+pub datetime-own : (c : Choices) (s : List ℕ) (at : ℕ) (x : DateTime) (n : ℕ) → dateTime c .reads s at ≡ got x n → TextsOwn (c .reading) s (x .time)
 unfolding dateTime afterDate timeOf
 datetime-own c s at x n e =
     let d = seq-found date (afterDate c) s at x n e in

@@ -53,8 +53,8 @@ line-short shown l t a = go (plainQuestion l) refl a
         rw (a .says) (simp length-append (omega (arith, reason-short (length s) (a .reason), drawing-short shown k s (a .reason) (a .tells), names-short-in plainHead l k e)))
     go Unknown e a = rw a (omega arith)
 
--- what is said of the first 204 bytes of a line, or more of them, is said of the line
-pub line-clip : (shown : Bool) (limit : ℕ) (l t : List ℕ) → 204 ≤ limit → WhyLine shown (take limit l) t → WhyLine shown l t
+-- what is said of the first 205 bytes of a line, or more of them, is said of the line
+pub line-clip : (shown : Bool) (limit : ℕ) (l t : List ℕ) → 205 ≤ limit → WhyLine shown (take limit l) t → WhyLine shown l t
 line-clip shown limit l t = said-clip (λ m. plainHead) (λ m. omega arith) (λ q s. WhyTo shown q s t) (λ s u e. e) limit l
 
 explains-once : (shown : Bool) (k : Kind) (s t u : List ℕ) → Explains shown k s t → Explains shown k s u → t ≡ u

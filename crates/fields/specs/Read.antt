@@ -1,6 +1,7 @@
 -- The code's answers as what `Reading` speaks of.
 use Prim.Native.Nat.{ℕ}
 use mathlib.Core.Bool.{Bool, true, false}
+use mathlib.Core.Option.{Option, some, none}
 use Rattle.parser.specs.Reading.{Found, no, got}
 use Rattle.fields.specs.declared.Number.{Number}
 use Rattle.fields.specs.declared.Number.the-variants as number
@@ -15,6 +16,12 @@ abbrev pub numberMore : Number → Bool
 numberMore (number.Got v n) = false
 numberMore number.Wrong = false
 numberMore number.Cut = true
+
+-- an optional number: it, or nothing where it is left out
+abbrev pub numberRead : Number → Option ℕ
+numberRead (number.Got v n) = some v
+numberRead number.Wrong = none
+numberRead number.Cut = none
 
 -- an input that ends inside a field
 abbrev pub cutField : Bool → Number

@@ -59,6 +59,10 @@ module _ {A : Type 0} (p : Reader A) (s : List ℕ) (at : ℕ) where
   unfolding alt
   says-alt-got q a n m h = record { found = rw (← h .found); more = rw (← h .found, ← h .more, or-false m) }
 
+  pub says-alt-stop : (q : Reader A) (r : ℕ) (m : Bool) → Says p s at (stop r) m → Says (alt p q) s at (stop r) m
+  unfolding alt
+  says-alt-stop q r m h = record { found = rw (← h .found); more = rw (← h .found, ← h .more, or-false m) }
+
 -- an optional item that the end of the input cuts short, before what fails there
 pub says-cut : {A B : Type 0} (p : Reader A) (q : Option A → Reader B) (s : List ℕ) (at : ℕ) → AtEnd p → Fails (q none) → Says p s at no true → Says (seq (opt p) q) s at no true
 unfolding seq opt

@@ -7,11 +7,13 @@ use mathlib.Core.Path.{_≡_, refl, sym, _∙_}
 use mathlib.Core.Logic.{_⊎_, inl, inr}
 use lib.ListN.{length}
 use lib.Dec.{leb}
-use Rattle.parser.specs.Reading.{Found, no, got, stop, Reader, seq, after, opt, lack, must, keepOrStop, map, mapFound, or, pick}
+use Rattle.parser.specs.Reading.{Found, no, got, stop, Reader, seq, after, opt, lack, alt, failed, must, keepOrStop, map, mapFound, or, and, pick}
 use Rattle.parser.specs.Digits.{number, runAt, ofRun, runAs, fractionOf, fraction}
 use Rattle.parser.proofs.Fields.{true≢false, and-first}
 use Rattle.parser.proofs.Places.{stop≢got}
 use Rattle.parser.proofs.Hopeful.{Ends, AnyByte, Hopeful, HopefulOr, Changes}
+use Rattle.parser.proofs.Says.{or-true}
+use Rattle.parser.proofs.Unstopped.{no≢stop}
 
 -- the same is found, or the reading is stopped
 abbrev SameOrStop : {A : Type 0} → Found A → Found A → Type 0
@@ -56,6 +58,24 @@ opt-stricter {A} {p} {q} h s at = record { reads = go (h s at .reads); more = h 
     go (inl e) = inl (rw e)
     go (inr (r, e)) = inr (r, rw e)
 
+pub alt-stricter : {A : Type 0} {p q f g : Reader A} → Stricter p q → Stricter f g → Stricter (alt p f) (alt q g)
+unfolding alt
+alt-stricter {A} {p} {q} {f} {g} h k s at = record { reads = reads (q .reads s at) refl (h s at .reads) (k s at .reads); more = more (p .more s at) refl (p .reads s at) refl (h s at .reads) }
+  where
+    reads : (x : Found A) → q .reads s at ≡ x → SameOrStop (p .reads s at) (q .reads s at) → SameOrStop (f .reads s at) (g .reads s at) → SameOrStop (alt p f .reads s at) (alt q g .reads s at)
+    reads x ex (inr (r, e)) i = inr (r, rw e)
+    reads no ex (inl e) (inl i) = inl (rw (e, ex, i))
+    reads no ex (inl e) (inr (r, i)) = inr (r, rw (e, ex, i))
+    reads (stop r) ex (inl e) i = inl (rw (e, ex))
+    reads (got a n) ex (inl e) i = inl (rw (e, ex))
+
+    more : (m : Bool) → p .more s at ≡ m → (x : Found A) → p .reads s at ≡ x → SameOrStop (p .reads s at) (q .reads s at) → or m (and (failed x) (f .more s at)) ≡ true → alt q g .more s at ≡ true
+    more true em x ex e o = rw (h s at .more em)
+    more false em no ex (inl e) o = rw (← e, ex, k s at .more o) (or-true (q .more s at))
+    more false em no ex (inr (r, e)) o = absurd (no≢stop (sym ex ∙ e))
+    more false em (stop r) ex e o = absurd (true≢false (sym o))
+    more false em (got a n) ex e o = absurd (true≢false (sym o))
+
 pub seq-stricter : {A B : Type 0} {p q : Reader A} {f g : A → Reader B} → Stricter p q → ((a : A) → Stricter (f a) (g a)) → Stricter (seq p f) (seq q g)
 unfolding seq
 seq-stricter {A} {B} {p} {q} {f} {g} h k s at = record { reads = reads (q .reads s at) refl (h s at .reads); more = more (p .more s at) refl (p .reads s at) refl (h s at .reads) }
@@ -69,10 +89,6 @@ seq-stricter {A} {B} {p} {q} {f} {g} h k s at = record { reads = reads (q .reads
         go : SameOrStop (f a .reads s n) (g a .reads s n) → SameOrStop (seq p f .reads s at) (seq q g .reads s at)
         go (inl i) = inl (rw (e, ex, i))
         go (inr (r, i)) = inr (r, rw (e, ex, i))
-
-    or-true : (m : Bool) → or m true ≡ true
-    or-true true = refl
-    or-true false = refl
 
     more : (m : Bool) → p .more s at ≡ m → (x : Found A) → p .reads s at ≡ x → SameOrStop (p .reads s at) (q .reads s at) → or m (after x (λ a n. f a .more s n)) ≡ true → seq q g .more s at ≡ true
     more true em x ex e o = rw (h s at .more em)

@@ -4,26 +4,28 @@ use mathlib.Core.List.{List}
 use mathlib.Core.Bool.{Bool, true, false}
 use mathlib.Core.Path.{_≡_, refl}
 use native.Mathlib.Omega.{arith}
-use lib.Dec.{leb, eqb}
-use lib.ListN.{length, getD, take, drop, length-drop}
+use lib.Dec.{leb}
+use lib.ListN.{length, take, drop, length-drop}
 use lib.Seq.{take-all, length-take-le}
 use borrow.Author.Tests.{leb-true, leb-false, le-leb, lt-leb}
-use Rattle.types.specs.Editions.{edition2004}
+use Rattle.types.specs.Editions.{edition2004, standard, standard2004}
 use Rattle.parser.specs.Reading.{pick}
 use Rattle.kinds.specs.declared.answer.Kind.{Kind}
 use Rattle.kinds.specs.declared.answer.Letter.{Letter}
 use Rattle.kinds.specs.declared.answer.Letter.the-variants.{Names, Unknown}
 use Rattle.reply.specs.declared.Head.{Head}
-use Rattle.reply.specs.Line.{plainHead, headOf, questionIn, questionOf, textIn, AnswersTo, Answers}
+use Rattle.reply.specs.Line.{plainHead, has, headOf, headFrom, questionIn, questionOf, textIn, AnswersTo, Answers}
 
--- a head is two bytes or three
-pub head-size : (l : List ℕ) → (2 ≤ headOf l .from) × (headOf l .from ≤ 3)
-unfolding headOf
-head-size l = go (eqb (getD l 1 0) 52)
+-- a head is two bytes, three or four
+pub head-size : (l : List ℕ) → (2 ≤ headOf l .from) × (headOf l .from ≤ 4)
+unfolding headOf headFrom
+head-size l = go (has l 1 52) (has l 2 115) (has l 1 115)
   where
-    go : (t : Bool) → let h : Head = pick t (record { from = 3; choices = edition2004 }) plainHead in (2 ≤ h .from) × (h .from ≤ 3)
-    go true = (omega arith, omega arith)
-    go false = (omega arith, omega arith)
+    go : (t u v : Bool) → let h : Head = pick t (pick u (record { from = 4; choices = standard2004 }) (record { from = 3; choices = edition2004 })) (pick v (record { from = 3; choices = standard }) plainHead) in (2 ≤ h .from) × (h .from ≤ 4)
+    go true true v = (omega arith, omega arith)
+    go true false v = (omega arith, omega arith)
+    go false u true = (omega arith, omega arith)
+    go false u false = (omega arith, omega arith)
 
 module _ (h : Head) (l : List ℕ) where
   pub names-long-in : (k : Kind) → questionIn h l ≡ Names k → h .from ≤ length l
@@ -62,17 +64,17 @@ clip-alike P n limit h alike l p = step (leb (length l) limit) refl
         let long : limit < length l = omega (arith, leb-false (length l) limit e) in
         alike (take limit l) l (rw (length-take-le limit l (omega arith)) h) (omega arith) p
 
--- So what is said of the first 204 bytes of a line, or more of them, is said of the line, by whatever head a program takes: no line that long names
+-- So what is said of the first 205 bytes of a line, or more of them, is said of the line, by whatever head a program takes: no line that long names
 -- a kind, and what is said of an unknown one does not depend on its text.
-module _ (H : List ℕ → Head) (few : (l : List ℕ) → H l .from ≤ 3) (P : Letter → List ℕ → Type 0) (unknown : (s u : List ℕ) → P Unknown s → P Unknown u) where
-  pub said-clip : (limit : ℕ) (l : List ℕ) → 204 ≤ limit → P (questionIn (H (take limit l)) (take limit l)) (drop (H (take limit l) .from) (take limit l)) → P (questionIn (H l) l) (drop (H l .from) l)
-  said-clip limit l h = clip-alike (λ m. P (questionIn (H m) m) (drop (H m .from) m)) 203 limit h alike l
+module _ (H : List ℕ → Head) (few : (l : List ℕ) → H l .from ≤ 4) (P : Letter → List ℕ → Type 0) (unknown : (s u : List ℕ) → P Unknown s → P Unknown u) where
+  pub said-clip : (limit : ℕ) (l : List ℕ) → 205 ≤ limit → P (questionIn (H (take limit l)) (take limit l)) (drop (H (take limit l) .from) (take limit l)) → P (questionIn (H l) l) (drop (H l .from) l)
+  said-clip limit l h = clip-alike (λ m. P (questionIn (H m) m) (drop (H m .from) m)) 204 limit h alike l
     where
-      long-unknown : (m : List ℕ) → 203 < length m → questionIn (H m) m ≡ Unknown
+      long-unknown : (m : List ℕ) → 204 < length m → questionIn (H m) m ≡ Unknown
       long-unknown m i = past-unknown (H m) m (omega (arith, few m))
 
-      alike : (m u : List ℕ) → 203 < length m → 203 < length u → P (questionIn (H m) m) (drop (H m .from) m) → P (questionIn (H u) u) (drop (H u .from) u)
+      alike : (m u : List ℕ) → 204 < length m → 204 < length u → P (questionIn (H m) m) (drop (H m .from) m) → P (questionIn (H u) u) (drop (H u .from) u)
       alike m u i j p = rw (long-unknown u j) (unknown _ _ (rw (long-unknown m i) at p))
 
-pub answers-clip : (shown : Bool) (limit : ℕ) (l t : List ℕ) → 204 ≤ limit → Answers shown (take limit l) t → Answers shown l t
+pub answers-clip : (shown : Bool) (limit : ℕ) (l t : List ℕ) → 205 ≤ limit → Answers shown (take limit l) t → Answers shown l t
 answers-clip shown limit l t = said-clip headOf (λ l. head-size l .1) (λ q s. AnswersTo shown q s t) (λ s u e. e) limit l

@@ -4,11 +4,14 @@ use mathlib.Core.Bool.{Bool, true}
 use mathlib.Core.List.{List, [], _∷_, _++_}
 use mathlib.Core.Option.{Option, some, none}
 use mathlib.Core.Path.{_≡_}
-use lib.Dec.{leb, eqb}
+use lib.Dec.{ltb, leb, eqb}
 use lib.ListN.{length, getD, drop}
-use Rattle.types.specs.Editions.{document01, edition2004}
+use Rattle.types.specs.Editions.{document01}
+use Rattle.types.specs.declared.Edition.{Edition}
+use Rattle.types.specs.declared.Edition.the-variants.{E2004, E2019}
+use Rattle.types.specs.declared.Reading.the-variants.{Old, Standard}
 use Rattle.types.specs.declared.Verdict.{Verdict}
-use Rattle.parser.specs.Reading.{pick}
+use Rattle.parser.specs.Reading.{and, pick}
 use Rattle.parser.specs.Answer.{Told, Begins, Ended}
 use Rattle.kinds.specs.declared.answer.Kind.{Kind}
 use Rattle.kinds.specs.declared.answer.Record.{Record}
@@ -61,9 +64,19 @@ pub record Answered (shown : Bool) (k : Kind) (s t : List ℕ) : Type 0 where
 abbrev pub plainHead : Head
 plainHead = record { from = 2; choices = document01 }
 
+-- a byte stands at a place of the line
+abbrev pub has : List ℕ → ℕ → ℕ → Bool
+has l at b = and (ltb at (length l)) (eqb (getD l at 0) b)
+
+-- "from W8 on, `s` behind that for the standard reading"
+unfoldable pub headFrom : ℕ → Edition → List ℕ → Head
+headFrom at e l =
+    pick (has l at 115) (record { from = at + 2; choices = record { edition = e; reading = Standard } })
+    (record { from = at + 1; choices = record { edition = e; reading = Old } })
+
 -- "take `4` behind the letter for edition 2004"
 unfoldable pub headOf : List ℕ → Head
-headOf l = pick (eqb (getD l 1 0) 52) (record { from = 3; choices = edition2004 }) plainHead
+headOf l = pick (has l 1 52) (headFrom 2 E2004 l) (headFrom 1 E2019 l)
 
 -- "a letter [..], a space, and a text of at most 200 bytes"
 unfoldable pub questionIn : Head → List ℕ → Letter

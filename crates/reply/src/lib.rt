@@ -8,7 +8,7 @@ ghost use mathlib.Core.Path.{_≡_};
 ghost use Rattle.kinds.specs.Kinds.{told};
 ghost use Rattle.text.specs.Text.{Puts};
 ghost use Rattle.words.specs.Words.{textOf};
-ghost use Rattle.reply.specs.Line.{firstWords, recordWords, recordOrDash, Gives, Answered, headOf, questionIn, questionOf, plainQuestion, Answers, AnswersLine};
+ghost use Rattle.reply.specs.Line.{firstWords, recordWords, recordOrDash, Gives, Answered, has, headFrom, headOf, questionIn, questionOf, plainQuestion, Answers, AnswersLine};
 use kinds::answer::Answer;
 use kinds::answer::Kind;
 use kinds::answer::Letter;
@@ -17,6 +17,7 @@ use text::put_byte;
 use text::put_decimal;
 use types::Choices;
 use types::Edition;
+use types::Reading;
 use words::records;
 use words::rows::put_name;
 use words::rows::put_word;
@@ -83,7 +84,8 @@ fn answer_text(kind: Kind, s: &[u8], shown: bool, out: &mut [u8], at: usize) -> 
     put_told(out, next, begun, shown)
 }
 
-// What stands before the text of a line, up to its space: a letter, and `4` behind it for edition 2004.
+// What stands before the text of a line, up to its space: a letter, behind it `4` for edition 2004, and behind that `s` for the standard
+// reading.
 pub struct Head {
     pub from: usize,
     pub choices: Choices,
@@ -97,26 +99,52 @@ impl Head {
     };
 }
 
-// The head of a line, if it has one: two bytes, or three where the second is a `4`.
+// Whether a byte stands at a place of the line.
+fn has(line: &[u8], at: usize, byte: u8) -> bool
+    ensures { λ r. ⌜ r ≡ has (now (line .entry)) at byte ⌝ }
+{
+    if at < line.len() {
+        return line[at] == byte;
+    }
+    false
+}
+
+// The head of a line whose edition was read up to `at`.
+fn head_from(line: &[u8], at: usize, edition: Edition) -> Head
+    requires { ⌜ at ≤ 2 ⌝ }
+    ensures { λ r. ⌜ r ≡ headFrom at edition (now (line .entry)) ⌝ }
+{
+    if has(line, at, b's') {
+        return Head {
+            from: at + 2,
+            choices: Choices {
+                edition,
+                reading: Reading::Standard,
+            },
+        };
+    }
+    Head {
+        from: at + 1,
+        choices: Choices {
+            edition,
+            reading: Reading::Old,
+        },
+    }
+}
+
+// The head of a line, if it has one: two to four bytes.
 pub fn head_of(line: &[u8]) -> Head
     ensures { λ r. ⌜ r ≡ headOf (now (line .entry)) ⌝ }
 {
-    if 1 < line.len() {
-        if line[1] == b'4' {
-            return Head {
-                from: 3,
-                choices: Choices {
-                    edition: Edition::E2004,
-                },
-            };
-        }
+    if has(line, 1, b'4') {
+        return head_from(line, 2, Edition::E2004);
     }
-    Head::PLAIN
+    head_from(line, 1, Edition::E2019)
 }
 
 // The kind that a line names, where it is that head and at most 200 bytes. Of a line that is too long the first bytes are enough.
 fn question_in(head: Head, line: &[u8]) -> Letter
-    requires { ⌜ (2 ≤ head .from) × (head .from ≤ 3) ⌝ }
+    requires { ⌜ (2 ≤ head .from) × (head .from ≤ 4) ⌝ }
     ensures { λ r. ⌜ r ≡ questionIn head (now (line .entry)) ⌝ }
 {
     let from = head.from;

@@ -66,12 +66,12 @@ module _ (tab : ℕ) (l : List ℕ) where
   unfolding questionIn
   later-question h = rw (take-take (headOf l .from) tab l h)
 
--- a question in a buffer of 204 bytes is answered as the question
-pub told-in : (l : List ℕ) (tab : ℕ) (ours : List ℕ) {old new : List ℕ} {n : ℕ} → length old ≡ 204 → Puts (questionIn tab l) old 0 new n → Answers false (take n new) ours → Told l tab ours
+-- a question in a buffer of 205 bytes is answered as the question
+pub told-in : (l : List ℕ) (tab : ℕ) (ours : List ℕ) {old new : List ℕ} {n : ℕ} → length old ≡ 205 → Puts (questionIn tab l) old 0 new n → Answers false (take n new) ours → Told l tab ours
 told-in l tab ours {old} {new} {n} size p a =
     let c = puts-clips p (omega arith) in
-    let same : take n new ≡ take 204 (questionIn tab l) = rw size at (c .front) in
-    answers-clip false 204 (questionIn tab l) ours (omega arith) (rw same at a)
+    let same : take n new ≡ take 205 (questionIn tab l) = rw size at (c .front) in
+    answers-clip false 205 (questionIn tab l) ours (omega arith) (rw same at a)
 
 -- our answer in a buffer of 400 bytes is all there
 ours-in : (l : List ℕ) (tab : ℕ) {old new : List ℕ} {n : ℕ} → length old ≡ 400 → (g : Gives (Told l tab) old 0 new n) → take n new ≡ g .text

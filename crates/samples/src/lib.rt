@@ -53,7 +53,7 @@ fn put_ours(line: &[u8], tab: usize, out: &mut [u8]) -> usize
     requires { ⌜ tab < length (now line) ⌝ }
     ensures { λ r. ⌜ Gives (Told (now (line .entry)) tab) (now (out .entry)) 0 (now (out .exit)) r ⌝ }
 {
-    let mut question = [0u8; 204]; // one byte more than any question: a longer one is unknown
+    let mut question = [0u8; 205]; // one byte more than any question: a longer one is unknown
     let n = put_question(&mut question, line, tab);
     reply::answer(&question[..n], false, out, 0)
 }

@@ -6,11 +6,15 @@ use native.Mathlib.Omega.{arith}
 use Rattle.types.specs.declared.Choices.{Choices}
 use Rattle.types.specs.declared.Edition.{Edition}
 use Rattle.types.specs.declared.Edition.the-variants.{E2004, E2019}
+use Rattle.types.specs.declared.Reading.{Reading}
+use Rattle.types.specs.declared.Reading.the-variants.{Old, Standard}
 use Rattle.parser.specs.Reading.{seq}
 use Rattle.parser.specs.Digits.{field, runAs, fractionOf, fraction}
-use Rattle.parser.specs.Fields.{signed, either, precededBy}
+use Rattle.parser.specs.Fields.{signed, either, precededBy, orZero}
 use Rattle.offset.specs.Rules.{offset, offsetHour, offsetMinute, offsetZulu}
-use Rattle.time.specs.Rules.{hourOf, endsDay, zeroIf, fractionIf, time, baseTime, afterHour, timeOffset, minuteSecondMillisecond, secondMillisecond, millisecond}
+use Rattle.time.specs.declared.Smallest.{Smallest}
+use Rattle.time.specs.declared.Smallest.the-variants.{Hour}
+use Rattle.time.specs.Rules.{hourOf, endsDay, zeroIf, fractionIf, smallestOf, time, baseTime, afterHour, timeOffset, behindHour, minuteSecondMillisecond, secondMillisecond, millisecond, timeFraction}
 use Rattle.date.specs.Rules.{date, year, weekAndDay, dayOfWeek, mdNumeric, ordinal, monthAndDay, dayOfMonth}
 use Rattle.datetime.specs.Rules.{dateTime, afterDate, timeOf}
 use Rattle.duration.specs.Rules.{duration, partsRule, durationTime, durationBaseTime}
@@ -51,11 +55,20 @@ fraction-trims : (z : Bool) → Trims fractions 11 (seq (either 44 46) (λ _. fr
 fraction-trims true = point-trims (runAs fractionOf 0 1) (zeros-leaf 1)
 fraction-trims false = point-trims fraction fraction-leaf
 
-clock-trims : (z : Bool) → Trims fractions 17 (minuteSecondMillisecond z)
+point-of-trims : (u : Smallest) (z : Bool) (mi se : ℕ) → Trims fractions 11 (timeFraction u z mi se)
+unfolding timeFraction
+point-of-trims u z mi se = map-trims _ (fraction-trims z)
+
+clock-trims : (r : Reading) (z : Bool) → Trims fractions 17 (minuteSecondMillisecond r z)
 unfolding minuteSecondMillisecond secondMillisecond millisecond
-clock-trims z =
-    seq-trims (zero-trims z 59) (λ _.
-    seq-trims (opt-trims (zero-trims z 60)) (λ _. map-trims _ (opt-trims (fraction-trims z))))
+clock-trims r z =
+    seq-trims (zero-trims z 59) (λ mi.
+    seq-trims (opt-trims (zero-trims z 60)) (λ se. map-trims _ (opt-trims (point-of-trims (smallestOf r se) z mi (orZero se)))))
+
+behind-trims : (r : Reading) (z : Bool) → Trims fractions 17 (behindHour r z)
+unfolding behindHour
+behind-trims Old z = clock-trims Old z
+behind-trims Standard z = alt-trims (clock-trims Standard z) (point-of-trims Hour z 0 0)
 
 hour-trims : (e : Edition) → Trims fractions 2 (hourOf e)
 hour-trims E2019 = field-trims 2 0 23
@@ -63,7 +76,7 @@ hour-trims E2004 = field-trims 2 0 24
 
 base-time-trims : (c : Choices) → Trims fractions 25 (baseTime c)
 unfolding baseTime afterHour timeOffset
-base-time-trims c = seq-trims (hour-trims (c .edition)) (λ h. seq-trims (opt-trims (clock-trims (endsDay (c .edition) h))) (λ _. map-trims _ (opt-trims offset-trims)))
+base-time-trims c = seq-trims (hour-trims (c .edition)) (λ h. seq-trims (opt-trims (behind-trims (c .reading) (endsDay (c .edition) h))) (λ _. map-trims _ (opt-trims offset-trims)))
 
 time-trims : (c : Choices) → Trims fractions 26 (time c)
 unfolding time

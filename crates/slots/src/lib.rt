@@ -16,6 +16,7 @@ use types::DateTime;
 use types::Duration;
 use types::Edition;
 use types::Offset;
+use types::Reading;
 use types::Refusal;
 use types::Time;
 use types::TimeOffset;
@@ -43,6 +44,15 @@ pub fn choices_of(n: u32) -> Chosen
         0 => Chosen::Names(Choices::DOCUMENT_01),
         1 => Chosen::Names(Choices {
             edition: Edition::E2004,
+            reading: Reading::Old,
+        }),
+        2 => Chosen::Names(Choices {
+            edition: Edition::E2019,
+            reading: Reading::Standard,
+        }),
+        3 => Chosen::Names(Choices {
+            edition: Edition::E2004,
+            reading: Reading::Standard,
         }),
         _ => Chosen::Unknown,
     }

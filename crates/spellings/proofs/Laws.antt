@@ -53,6 +53,6 @@ line-short l = go (questionOf l)
     go (Names k) = rw (length-append (said (ended (length (textIn l)) (ruleOf k .reads (textIn l) 0))) (10 ∷ [])) (omega (arith, said-short k (textIn l)))
     go Unknown = omega arith
 
--- what is said of the first 204 bytes of a line, or more of them, is said of the line
-pub spelled-clip : (limit : ℕ) (l : List ℕ) → 204 ≤ limit → spelledLine (take limit l) ≡ spelledLine l
+-- what is said of the first 205 bytes of a line, or more of them, is said of the line
+pub spelled-clip : (limit : ℕ) (l : List ℕ) → 205 ≤ limit → spelledLine (take limit l) ≡ spelledLine l
 spelled-clip limit l h = said-clip headOf (λ m. head-size m .1) (λ q s. spelledLine (take limit l) ≡ spelledAs q s ++ 10 ∷ []) (λ s u e. e) limit l h refl

@@ -1,5 +1,5 @@
--- The laws of times, part by part: each is what it is made of, and what may be absent takes nothing where the input ends. The edition is a
--- parameter: behind an hour that ends the day a completion may stop the reading, and only there.
+-- The laws of times, part by part: each is what it is made of, and what may be absent takes nothing where the input ends. The edition and
+-- the reading are parameters: behind an hour that ends the day a completion may stop the reading, and only there.
 use Prim.Native.Nat.{ℕ}
 use mathlib.Core.List.{List, [], _∷_}
 use mathlib.Core.Bool.{Bool, true, false}
@@ -10,19 +10,25 @@ use Rattle.types.specs.declared.Time.{Time}
 use Rattle.types.specs.declared.Choices.{Choices}
 use Rattle.types.specs.declared.Edition.{Edition}
 use Rattle.types.specs.declared.Edition.the-variants.{E2004, E2019}
+use Rattle.types.specs.declared.Reading.{Reading}
+use Rattle.types.specs.declared.Reading.the-variants.{Old, Standard}
 use Rattle.parser.specs.Reading.{Found, Says, opt, seq}
 use Rattle.parser.specs.Answer.{begun, Begins, verdictOf}
 use Rattle.parser.specs.Digits.{isDigit, field, fractionOf}
 use Rattle.parser.specs.Fields.{orZero}
-use Rattle.parser.proofs.Places.{Bounded, Fails, lit-fails, field-fails, must-fails, seq-skips, opt-skips}
+use Rattle.parser.proofs.Places.{Bounded, Fails, lit-fails, field-fails, must-fails, alt-fails, seq-skips, opt-skips}
 use Rattle.parser.proofs.Hopeful.{Anything, never-stops}
 use Rattle.parser.proofs.General.{Eager}
-use Rattle.parser.proofs.Steady.{Steady, map-steady, must-steady, opt-steady, seq-steady, run-steady}
+use Rattle.parser.proofs.Steady.{Steady, map-steady, must-steady, opt-steady, alt-steady, seq-steady, run-steady}
 use Rattle.parser.proofs.Stricter.{stricter-hopeful}
-use Rattle.parser.proofs.Lawful.{Outside, outside-digit, lawful-begins, Tail, TailOr, tail-or, map-tail, seq-tail, Item, ItemOr, widen, opt-tail, seq-item}
+use Rattle.parser.proofs.Lawful.{byte, Outside, outside-digit, lawful-begins, Tail, TailOr, tail-or, map-tail, seq-tail, Item, ItemOr, widen, map-item, alt-item, opt-tail, seq-item}
 use Rattle.parser.proofs.Items.{lit-mark, either-mark, after-item, preceded-item, field-item, fraction-item}
 use Rattle.offset.proofs.Laws.{offset-item}
-use Rattle.time.specs.Rules.{Clock, hourOf, endsDay, millisecond, secondMillisecond, minuteSecondMillisecond, orMidnight, timeOffset, afterHour, baseTime, time}
+use Rattle.time.specs.declared.Clock.{Clock}
+use Rattle.time.specs.declared.Smallest.{Smallest}
+use Rattle.time.specs.declared.Smallest.the-variants.{Hour}
+use Rattle.time.specs.Rules.{hourOf, endsDay, orWhole, smallestOf, timeFraction, millisecond, secondMillisecond, minuteSecondMillisecond, behindHour, timeOffset, afterHour, baseTime, time}
+use Rattle.time.proofs.Unmarked.{no-fraction}
 use Rattle.time.proofs.EndOfDay.{zeroField, after-hour-stricter, after-hour-valued}
 
 -- what a time takes beside digits: `T`, `:`, `,`, `.`, and what an offset takes, `+`, `-`, `:` and `Z`
@@ -31,50 +37,69 @@ bytes = 84 ∷ 58 ∷ 44 ∷ 46 ∷ 43 ∷ 45 ∷ 90 ∷ []
 
 -- ---- behind any hour but one that ends the day
 
-millisecond-tail : (mi se : ℕ) → Tail bytes 2 (millisecond false mi se)
-unfolding millisecond
-millisecond-tail mi se = map-tail _ (opt-tail (after-item (either-mark 44 46 refl refl) (λ _. fraction-item)))
+point-item : (u : Smallest) (mi se : ℕ) → Item bytes (byte 44) 2 2 Anything (timeFraction u false mi se)
+unfolding timeFraction
+point-item u mi se = map-item _ (after-item (either-mark 44 46 refl refl) (λ _. fraction-item))
 
-second-tail : (mi : ℕ) → Tail bytes 2 (secondMillisecond false mi)
-unfolding secondMillisecond
-second-tail mi = seq-tail (opt-tail (preceded-item 58 refl refl (field-item 2 0 60 refl))) (λ se. millisecond-tail mi (orZero se))
+second-tail : (r : Reading) (mi : ℕ) → Tail bytes 2 (secondMillisecond r false mi)
+unfolding secondMillisecond millisecond
+second-tail r mi = seq-tail (opt-tail (preceded-item 58 refl refl (field-item 2 0 60 refl))) (λ se. map-tail _ (opt-tail (point-item (smallestOf r se) mi (orZero se))))
 
-minute-item : Item bytes isDigit 2 2 Anything (minuteSecondMillisecond false)
+minute-item : (r : Reading) → Item bytes isDigit 2 2 Anything (minuteSecondMillisecond r false)
 unfolding minuteSecondMillisecond
-minute-item = seq-item (preceded-item 58 refl refl (field-item 2 0 59 refl)) second-tail
+minute-item r = seq-item (preceded-item 58 refl refl (field-item 2 0 59 refl)) (second-tail r)
+
+behind-item : (r : Reading) → Item bytes isDigit 2 2 Anything (behindHour r false)
+unfolding behindHour
+behind-item Old = minute-item Old
+behind-item Standard = alt-item (minute-item Standard) (point-item Hour 0 0)
 
 offset-tail : (h : ℕ) (k : Clock) → Tail bytes 3 (timeOffset h k)
 unfolding timeOffset
 offset-tail h k = map-tail _ (opt-tail (widen refl offset-item))
 
-after-hour-tail : (h : ℕ) → Tail bytes 3 (afterHour false h)
+after-hour-tail : (r : Reading) (h : ℕ) → Tail bytes 3 (afterHour r false h)
 unfolding afterHour
-after-hour-tail h = seq-tail (opt-tail minute-item) (λ k. offset-tail h (orMidnight k))
+after-hour-tail r h = seq-tail (opt-tail (behind-item r)) (λ k. offset-tail h (orWhole 0 0 k))
 
 -- ---- behind an hour that ends the day
 
 zero-steady : (hi : ℕ) → Steady (Outside bytes) (field 2 0 hi) → Steady (Outside bytes) (zeroField hi)
 zero-steady hi h = seq-steady (opt-steady (lit-mark {l = bytes} 58 refl .item .lawful .steady)) (λ _. must-steady _ 1 h)
 
-minute-steady : Steady (Outside bytes) (minuteSecondMillisecond true)
+point-steady : (u : Smallest) (mi se : ℕ) → Steady (Outside bytes) (timeFraction u true mi se)
+unfolding timeFraction
+point-steady u mi se = map-steady _ (seq-steady (either-mark {l = bytes} 44 46 refl refl .item .lawful .steady) (λ _. run-steady fractionOf 0 1 (outside-digit bytes)))
+
+minute-steady : (r : Reading) → Steady (Outside bytes) (minuteSecondMillisecond r true)
 unfolding minuteSecondMillisecond secondMillisecond millisecond
-minute-steady =
+minute-steady r =
     seq-steady (zero-steady 59 (field-item {l = bytes} 2 0 59 refl .lawful .steady)) (λ mi.
     seq-steady (opt-steady (zero-steady 60 (field-item {l = bytes} 2 0 60 refl .lawful .steady))) (λ se.
-    map-steady _ (opt-steady (seq-steady (either-mark {l = bytes} 44 46 refl refl .item .lawful .steady) (λ _. run-steady fractionOf 0 1 (outside-digit bytes))))))
+    map-steady _ (opt-steady (point-steady (smallestOf r se) mi (orZero se)))))
 
-minute-fails : Fails (minuteSecondMillisecond true)
+behind-steady : (r : Reading) → Steady (Outside bytes) (behindHour r true)
+unfolding behindHour
+behind-steady Old = minute-steady Old
+behind-steady Standard = alt-steady (minute-steady Standard) (point-steady Hour 0 0)
+
+minute-fails : (r : Reading) → Fails (minuteSecondMillisecond r true)
 unfolding minuteSecondMillisecond opt seq
-minute-fails s at h = rw (lit-fails 58 s at h, must-fails (λ v. eqb v 0) 1 (field 2 0 59) (field-fails 2 0 59 (omega arith)) s at h)
+minute-fails r s at h = rw (lit-fails 58 s at h, must-fails (λ v. eqb v 0) 1 (field 2 0 59) (field-fails 2 0 59 (omega arith)) s at h)
 
-end-of-day-tail : {W : Type 0} → W → (h : ℕ) → TailOr W Unit bytes 3 Anything (afterHour true h)
+behind-fails : (r : Reading) → Fails (behindHour r true)
+unfolding behindHour
+behind-fails Old = minute-fails Old
+behind-fails Standard = alt-fails (minuteSecondMillisecond Standard true) (timeFraction Hour true 0 0) (minute-fails Standard) (λ s at h. no-fraction Hour true 0 0 s at (either-mark {l = bytes} 44 46 refl refl .item .fails s at h))
+
+end-of-day-tail : {W : Type 0} → W → (r : Reading) (h : ℕ) → TailOr W Unit bytes 3 Anything (afterHour r true h)
 unfolding afterHour
-end-of-day-tail w h = record {
+end-of-day-tail w r h = record {
   lawful = record {
-    steady = seq-steady (opt-steady minute-steady) (λ k. offset-tail h (orMidnight k) .lawful .steady);
-    hopeful = stricter-hopeful (afterHour true h) (afterHour false h) w (after-hour-stricter h) (after-hour-valued h) (never-stops (after-hour-tail h .lawful .hopeful));
+    steady = seq-steady (opt-steady (behind-steady r)) (λ k. offset-tail h (orWhole 0 0 k) .lawful .steady);
+    hopeful = stricter-hopeful (afterHour r true h) (afterHour r false h) w (after-hour-stricter r h) (after-hour-valued r h) (never-stops (after-hour-tail r h .lawful .hopeful));
   };
-  skips = λ c. seq-skips Anything Anything (opt (minuteSecondMillisecond true)) (λ k. timeOffset h (orMidnight k)) (opt-skips Anything (minuteSecondMillisecond true) tt minute-fails) (λ k _. offset-tail h (orMidnight k) .skips tt);
+  skips = λ c. seq-skips Anything Anything (opt (behindHour r true)) (λ k. timeOffset h (orWhole 0 0 k)) (opt-skips Anything (behindHour r true) tt (behind-fails r)) (λ k _. offset-tail h (orWhole 0 0 k) .skips tt);
 }
 
 -- ---- the two editions
@@ -88,18 +113,18 @@ hour-item : (e : Edition) → Item bytes isDigit 2 2 Anything (hourOf e)
 hour-item E2019 = field-item 2 0 23 refl
 hour-item E2004 = field-item 2 0 24 refl
 
-tail-of : (e : Edition) (h : ℕ) → TailOr (MayStop e) Unit bytes 3 Anything (afterHour (endsDay e h) h)
-tail-of E2019 h = after-hour-tail h
-tail-of E2004 h = go (eqb h 24)
+tail-of : (e : Edition) (r : Reading) (h : ℕ) → TailOr (MayStop e) Unit bytes 3 Anything (afterHour r (endsDay e h) h)
+tail-of E2019 r h = after-hour-tail r h
+tail-of E2004 r h = go (eqb h 24)
   where
-    go : (z : Bool) → TailOr (MayStop E2004) Unit bytes 3 Anything (afterHour z h)
-    go true = end-of-day-tail tt h
-    go false = tail-or (after-hour-tail h)
+    go : (z : Bool) → TailOr (MayStop E2004) Unit bytes 3 Anything (afterHour r z h)
+    go true = end-of-day-tail tt r h
+    go false = tail-or (after-hour-tail r h)
 
 -- two digits are a time
 pub base-time-item : (c : Choices) → ItemOr (MayStop (c .edition)) bytes isDigit 2 3 Anything (baseTime c)
 unfolding baseTime
-base-time-item c = seq-item (hour-item (c .edition)) (tail-of (c .edition))
+base-time-item c = seq-item (hour-item (c .edition)) (tail-of (c .edition) (c .reading))
 
 pub time-item : (c : Choices) → ItemOr (MayStop (c .edition)) bytes isDigit 2 3 Anything (time c)
 unfolding time

@@ -1,3 +1,5 @@
+pub mod Unmarked
+pub mod Behind
 pub mod EndOfDay
 pub mod Document
 pub mod Laws

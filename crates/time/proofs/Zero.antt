@@ -6,7 +6,7 @@ use mathlib.Core.Path.{_≡_, refl, sym}
 use lib.Dec.{eqb}
 use Rattle.parser.specs.Reading.{Found, no, got, stop, Says, opt, lit, keepOrStop, and}
 use Rattle.parser.specs.Digits.{field}
-use Rattle.parser.specs.Fields.{second, either, precededBy}
+use Rattle.parser.specs.Fields.{second, precededBy}
 use Rattle.parser.proofs.Fields.{true≢false}
 use Rattle.parser.proofs.Alike.{alike-says, must-behind}
 use Rattle.parser.proofs.Says.{says-must}
@@ -14,7 +14,7 @@ use Rattle.fields.specs.declared.Number.{Number}
 use Rattle.fields.specs.declared.Number.the-variants as number
 use Rattle.fields.specs.Read.{orLeftOut, numberFound, numberMore}
 use Rattle.time.specs.Rules.{zeroIf}
-use Rattle.time.proofs.EndOfDay.{no-mark}
+use Rattle.time.proofs.Unmarked.{mark, no-mark}
 
 -- what is found, or 1 in its place
 abbrev pub tested : Bool → Found ℕ → Found ℕ
@@ -66,7 +66,7 @@ module _ (z : Bool) (hi : ℕ) (s : List ℕ) (at : ℕ) where
   refuses number.Cut h v e t = absurd (absent z (rw e at t))
 
 -- where the second is still open no comma or point stands behind it
-pub unmarked : (s : List ℕ) (at : ℕ) (x : Number) → Says (precededBy 58 second) s at (numberFound x) (numberMore x) → orLeftOut at x .more ≡ true → either 44 46 .reads s (orLeftOut at x .next) ≡ no
+pub unmarked : (s : List ℕ) (at : ℕ) (x : Number) → Says (precededBy 58 second) s at (numberFound x) (numberMore x) → orLeftOut at x .more ≡ true → mark .reads s (orLeftOut at x .next) ≡ no
 unmarked s at (number.Got v n) h o = absurd (true≢false (sym o))
 unmarked s at number.Wrong h o = absurd (true≢false (sym o))
-unmarked s at number.Cut h o = no-mark s at (sym (h .more))
+unmarked s at number.Cut h o = no-mark 60 s at (sym (h .more))

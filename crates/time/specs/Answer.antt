@@ -2,20 +2,20 @@
 use mathlib.Core.Bool.{Bool, true, false}
 use Rattle.types.specs.declared.Time.{Time}
 use Rattle.parser.specs.Reading.{Found, no, got, stop}
-use Rattle.time.specs.Rules.{Clock}
+use Rattle.time.specs.declared.Clock.{Clock}
 use Rattle.time.specs.declared.ClockFound.{ClockFound}
 use Rattle.time.specs.declared.ClockFound.the-variants as clock
 use Rattle.time.specs.declared.TimeFound.{TimeFound}
 use Rattle.time.specs.declared.TimeFound.the-variants as found
 
 abbrev pub clockFound : ClockFound → Found Clock
-clockFound (clock.Got mi se f n m) = got (record { minute = mi; second = se; fraction = f }) n
+clockFound (clock.Got c n m) = got c n
 clockFound clock.Stopped = stop 1
 clockFound clock.Wrong = no
 clockFound clock.Cut = no
 
 abbrev pub clockMore : ClockFound → Bool
-clockMore (clock.Got mi se f n m) = m
+clockMore (clock.Got c n m) = m
 clockMore clock.Stopped = false
 clockMore clock.Wrong = false
 clockMore clock.Cut = true

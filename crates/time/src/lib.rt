@@ -2,12 +2,13 @@
 ghost use mathlib.Core.Path.{_≡_};
 ghost use mathlib.Core.Bool.{true, not};
 ghost use mathlib.Core.Option.{none};
+ghost use Prim.Native.Nat.{_*_, _≤_};
 ghost use lib.Dec.{eqb};
 ghost use Rattle.parser.specs.Reading.{Says, SaysOn, no, got, and};
 ghost use Rattle.parser.specs.Fields.{either};
-ghost use Rattle.fields.specs.Read.{numberFound, numberMore};
+ghost use Rattle.fields.specs.Read.{numberFound, numberRead, numberMore};
 ghost use Rattle.runs.specs.Read.{fractionFound, runMore};
-ghost use Rattle.time.specs.Rules.{hourOf, endsDay, fractionIf, timeOf, millisecond, secondMillisecond, minuteSecondMillisecond, timeOffset, afterHour, baseTime, time};
+ghost use Rattle.time.specs.Rules.{hourOf, endsDay, fractionIf, wholeClock, smallestOf, digitsCounted, sumOf, clockOf, timeOf, timeFraction, millisecond, secondMillisecond, minuteSecondMillisecond, behindHour, timeOffset, afterHour, baseTime, time};
 ghost use Rattle.time.specs.Answer.{clockFound, clockMore, timeFound, timeMore};
 use fields::Number;
 use offset::OffsetFound;
@@ -16,18 +17,40 @@ use runs::Run;
 use types::Choices;
 use types::Edition;
 use types::Fraction;
+use types::Reading;
 use types::Time;
 use types::TimeOffset;
 
 // What is read at one go, before the rule is asked.
 pub mod plain;
 
+// What stands behind an hour.
+pub struct Clock {
+    pub minute: u32,
+    pub second: u32,
+    pub fraction: Fraction,
+}
+
+impl Clock {
+    // That of an hour with nothing behind it.
+    pub const WHOLE_HOUR: Clock = Clock {
+        minute: 0,
+        second: 0,
+        fraction: Fraction::NONE,
+    };
+}
+
+// The smallest unit that was written, of which a fraction is one.
+pub enum Smallest {
+    Hour,
+    Minute,
+    Second,
+}
+
 // What reading minute, second and fraction at a place finds; an absent one is 0. `more`, Stopped, Wrong and Cut: as in TimeFound.
 pub enum ClockFound {
     Got {
-        minute: u32,
-        second: u32,
-        fraction: Fraction,
+        value: Clock,
         next: usize,
         more: bool,
     },
@@ -78,15 +101,92 @@ fn fraction_at(s: &[u8], at: usize, zero: bool) -> Run
     }
 }
 
-// A clock with its fraction.
-fn clock_with(minute: u32, second: u32, kept: Fraction, next: usize, more: bool) -> ClockFound
-    ensures found { λ r. ⌜ clockFound r ≡ got (record { minute = minute; second = second; fraction = kept }) next ⌝ }
+// How many digits are stored of nanoseconds that were counted, and not written.
+fn digits_counted(nanosecond: u32) -> u32
+    ensures { λ r. ⌜ r ≡ digitsCounted nanosecond ⌝ }
+{
+    if nanosecond == 0 { 0 } else { 9 }
+}
+
+// So many nanoseconds past a minute.
+fn sum_of(minute: u32, all: u64) -> Clock
+    requires { ⌜ minute ≤ 59 ⌝ }
+    ensures { λ r. ⌜ r ≡ sumOf minute all ⌝ }
+{
+    let nanosecond = (all % 1000000000) as u32;
+    let fraction = Fraction {
+        nanosecond,
+        digits: digits_counted(nanosecond),
+    };
+    Clock {
+        minute: minute + ((all / 60000000000) as u32),
+        second: (all / 1000000000 % 60) as u32,
+        fraction,
+    }
+}
+
+// A clock with a fraction of the smallest unit that was written.
+fn clock_of(smallest: Smallest, minute: u32, second: u32, fraction: Fraction) -> Clock
+    requires { ⌜ minute ≤ 59 ⌝ }
+    ensures { λ r. ⌜ r ≡ clockOf smallest minute second fraction ⌝ }
+{
+    match smallest {
+        Smallest::Hour => sum_of(minute, 3600 * (fraction.nanosecond as u64)),
+        Smallest::Minute => sum_of(minute, 60 * (fraction.nanosecond as u64)),
+        Smallest::Second => Clock {
+            minute,
+            second,
+            fraction,
+        },
+    }
+}
+
+// (,|.)(m*), a fraction of the smallest unit that was written
+fn time_fraction(
+    s: &[u8],
+    at: usize,
+    smallest: Smallest,
+    minute: u32,
+    second: u32,
+    zero: bool,
+) -> ClockFound
+    requires { ⌜ minute ≤ 59 ⌝ }
+    ensures { λ r. ⌜ Says (timeFraction smallest zero minute second) (now (s .entry)) at (clockFound r) (clockMore r) ⌝ }
+{
+    let mark = parser::one_of(s, at, 44, 46);
+    match mark {
+        Mark::Got { next: from } => {
+            let fraction = fraction_at(s, from, zero);
+            match fraction {
+                Run::Got { value, next, more } => {
+                    let kept = runs::fraction_of(value, next - from);
+                    ClockFound::Got {
+                        value: clock_of(smallest, minute, second, kept),
+                        next,
+                        more,
+                    }
+                }
+                Run::TooBig => ClockFound::Stopped,
+                Run::Wrong => ClockFound::Wrong,
+                Run::Cut => ClockFound::Cut,
+            }
+        }
+        Mark::Wrong => ClockFound::Wrong,
+        Mark::Cut => ClockFound::Cut,
+    }
+}
+
+// A clock without a fraction.
+fn whole_clock(minute: u32, second: u32, next: usize, more: bool) -> ClockFound
+    ensures found { λ r. ⌜ clockFound r ≡ got (wholeClock minute second) next ⌝ }
     ensures more { λ r. ⌜ clockMore r ≡ more ⌝ }
 {
     ClockFound::Got {
-        minute,
-        second,
-        fraction: kept,
+        value: Clock {
+            minute,
+            second,
+            fraction: Fraction::NONE,
+        },
         next,
         more,
     }
@@ -96,54 +196,83 @@ fn clock_with(minute: u32, second: u32, kept: Fraction, next: usize, more: bool)
 fn time_millisecond(
     s: &[u8],
     at: usize,
+    smallest: Smallest,
     minute: u32,
     second: u32,
     more: bool,
     zero: bool,
 ) -> ClockFound
+    requires { ⌜ minute ≤ 59 ⌝ }
     requires { ⌜ (more ≡ true → either 44 46 .reads (now s) at ≡ no) ⌝ }
-    ensures { λ r. ⌜ SaysOn more (millisecond zero minute second) (now (s .entry)) at (clockFound r) (clockMore r) ⌝ }
+    ensures { λ r. ⌜ SaysOn more (millisecond smallest zero minute second) (now (s .entry)) at (clockFound r) (clockMore r) ⌝ }
 {
-    let mark = parser::one_of(s, at, 44, 46);
-    match mark {
-        Mark::Got { next: from } => {
-            let fraction = fraction_at(s, from, zero);
-            match fraction {
-                Run::Got {
-                    value,
-                    next,
-                    more: longer,
-                } => clock_with(
-                    minute,
-                    second,
-                    runs::fraction_of(value, next - from),
-                    next,
-                    parser::either_open(more, longer),
-                ),
-                Run::TooBig => ClockFound::Stopped,
-                Run::Wrong => clock_with(minute, second, Fraction::NONE, at, more),
-                Run::Cut => clock_with(minute, second, Fraction::NONE, at, true),
-            }
-        }
-        Mark::Wrong => clock_with(minute, second, Fraction::NONE, at, more),
-        Mark::Cut => clock_with(minute, second, Fraction::NONE, at, true),
+    let found = time_fraction(s, at, smallest, minute, second, zero);
+    match found {
+        ClockFound::Got {
+            value,
+            next,
+            more: longer,
+        } => ClockFound::Got {
+            value,
+            next,
+            more: parser::either_open(more, longer),
+        },
+        ClockFound::Stopped => ClockFound::Stopped,
+        ClockFound::Wrong => whole_clock(minute, second, at, more),
+        ClockFound::Cut => whole_clock(minute, second, at, true),
+    }
+}
+
+// The smallest unit behind a minute, by the second that was looked for.
+fn smallest_of(reading: Reading, second: Number) -> Smallest
+    ensures { λ r. ⌜ r ≡ smallestOf reading (numberRead second) ⌝ }
+{
+    match reading {
+        Reading::Old => Smallest::Second,
+        Reading::Standard => match second {
+            Number::Got { value: _, next: _ } => Smallest::Second,
+            Number::Wrong => Smallest::Minute,
+            Number::Cut => Smallest::Minute,
+        },
     }
 }
 
 // [[:]SS][(,|.)(m*)]
-fn time_second_millisecond(s: &[u8], at: usize, minute: u32, zero: bool) -> ClockFound
-    ensures { λ r. ⌜ Says (secondMillisecond zero minute) (now (s .entry)) at (clockFound r) (clockMore r) ⌝ }
+fn time_second_millisecond(
+    s: &[u8],
+    at: usize,
+    minute: u32,
+    zero: bool,
+    reading: Reading,
+) -> ClockFound
+    requires { ⌜ minute ≤ 59 ⌝ }
+    ensures { λ r. ⌜ Says (secondMillisecond reading zero minute) (now (s .entry)) at (clockFound r) (clockMore r) ⌝ }
 {
-    let second = fields::or_left_out(at, fields::after_colon(s, at, 60));
+    let found = fields::after_colon(s, at, 60);
+    let smallest = smallest_of(reading, found);
+    let second = fields::or_left_out(at, found);
     if stops(zero, second.value) {
         return ClockFound::Stopped;
     }
-    time_millisecond(s, second.next, minute, second.value, second.more, zero)
+    time_millisecond(
+        s,
+        second.next,
+        smallest,
+        minute,
+        second.value,
+        second.more,
+        zero,
+    )
 }
 
 // [:]MM[[:]SS][(,|.)(m*)]; `zero`: what is read has to be 0
-pub fn time_minute_second_millisecond(s: &[u8], at: usize, zero: bool) -> ClockFound
-    ensures { λ r. ⌜ Says (minuteSecondMillisecond zero) (now (s .entry)) at (clockFound r) (clockMore r) ⌝ }
+pub fn time_minute_second_millisecond(
+    s: &[u8],
+    at: usize,
+    zero: bool,
+    reading: Reading,
+) -> ClockFound
+    ensures { λ r. ⌜ Says (minuteSecondMillisecond reading zero) (now (s .entry)) at (clockFound r) (clockMore r) ⌝ }
 {
     let minute = fields::after_colon(s, at, 59);
     match minute {
@@ -151,68 +280,69 @@ pub fn time_minute_second_millisecond(s: &[u8], at: usize, zero: bool) -> ClockF
             if stops(zero, value) {
                 return ClockFound::Stopped;
             }
-            time_second_millisecond(s, next, value, zero)
+            time_second_millisecond(s, next, value, zero, reading)
         }
         Number::Wrong => ClockFound::Wrong,
         Number::Cut => ClockFound::Cut,
     }
 }
 
-// [(Z|+...|-...)]; `more`: what came before was left open. An offset that is refused leaves the time standing.
-fn time_offset(
-    s: &[u8],
-    at: usize,
-    hour: u32,
-    minute: u32,
-    second: u32,
-    fraction: Fraction,
-    more: bool,
-) -> TimeFound
-    ensures { λ r. ⌜ SaysOn more (timeOffset hour (record { minute = minute; second = second; fraction = fraction })) (now (s .entry)) at (timeFound r) (timeMore r) ⌝ }
+// What may stand between the hour and the offset: in the standard reading also (,|.)(m*), in place of minutes.
+fn time_behind_hour(s: &[u8], at: usize, zero: bool, reading: Reading) -> ClockFound
+    ensures { λ r. ⌜ Says (behindHour reading zero) (now (s .entry)) at (clockFound r) (clockMore r) ⌝ }
 {
-    let bare = no_offset(hour, minute, second, fraction, at, more);
+    let clock = time_minute_second_millisecond(s, at, zero, reading);
+    match clock {
+        ClockFound::Got { value, next, more } => ClockFound::Got { value, next, more },
+        ClockFound::Stopped => ClockFound::Stopped,
+        ClockFound::Wrong => match reading {
+            Reading::Old => ClockFound::Wrong,
+            Reading::Standard => time_fraction(s, at, Smallest::Hour, 0, 0, zero),
+        },
+        ClockFound::Cut => ClockFound::Cut,
+    }
+}
+
+// [(Z|+...|-...)]; `more`: what came before was left open. An offset that is refused leaves the time standing.
+fn time_offset(s: &[u8], at: usize, hour: u32, clock: Clock, more: bool) -> TimeFound
+    ensures { λ r. ⌜ SaysOn more (timeOffset hour clock) (now (s .entry)) at (timeFound r) (timeMore r) ⌝ }
+{
+    let bare = no_offset(hour, clock, at, more);
     let found = offset::offset_at(s, at);
     match found {
         OffsetFound::Got {
             value,
             next,
-            more: longer,
+            more: further,
         } => TimeFound::Got {
             value: Time {
                 hour,
-                minute,
-                second,
-                nanosecond: fraction.nanosecond,
-                digits: fraction.digits,
+                minute: clock.minute,
+                second: clock.second,
+                nanosecond: clock.fraction.nanosecond,
+                digits: clock.fraction.digits,
                 offset: TimeOffset::Given(value),
             },
             next,
-            more: parser::either_open(more, longer),
+            more: parser::either_open(more, further),
         },
         OffsetFound::Wrong => bare,
-        OffsetFound::Cut => no_offset(hour, minute, second, fraction, at, true),
+        OffsetFound::Cut => no_offset(hour, clock, at, true),
     }
 }
 
 // A time without an offset.
-fn no_offset(
-    hour: u32,
-    minute: u32,
-    second: u32,
-    fraction: Fraction,
-    next: usize,
-    more: bool,
-) -> TimeFound
-    ensures found { λ r. ⌜ timeFound r ≡ got (timeOf hour (record { minute = minute; second = second; fraction = fraction }) none) next ⌝ }
+fn no_offset(hour: u32, clock: Clock, next: usize, more: bool) -> TimeFound
+    ensures found { λ r. ⌜ timeFound r ≡ got (timeOf hour clock none) next ⌝ }
     ensures more { λ r. ⌜ timeMore r ≡ more ⌝ }
 {
     TimeFound::Got {
         value: Time {
             hour,
-            minute,
-            second,
-            nanosecond: fraction.nanosecond,
-            digits: fraction.digits,
+            minute: clock.minute,
+            second: clock.second,
+            nanosecond: clock.fraction.nanosecond,
+            digits: clock.fraction.digits,
             offset: TimeOffset::Absent, // which is not zero
         },
         next,
@@ -221,21 +351,15 @@ fn no_offset(
 }
 
 // What follows the hour. `zero`: it ends the day.
-fn time_after_hour(s: &[u8], at: usize, hour: u32, zero: bool) -> TimeFound
-    ensures { λ r. ⌜ Says (afterHour zero hour) (now (s .entry)) at (timeFound r) (timeMore r) ⌝ }
+fn time_after_hour(s: &[u8], at: usize, hour: u32, zero: bool, reading: Reading) -> TimeFound
+    ensures { λ r. ⌜ Says (afterHour reading zero hour) (now (s .entry)) at (timeFound r) (timeMore r) ⌝ }
 {
-    let clock = time_minute_second_millisecond(s, at, zero);
+    let clock = time_behind_hour(s, at, zero, reading);
     match clock {
-        ClockFound::Got {
-            minute,
-            second,
-            fraction,
-            next,
-            more,
-        } => time_offset(s, next, hour, minute, second, fraction, more),
+        ClockFound::Got { value, next, more } => time_offset(s, next, hour, value, more),
         ClockFound::Stopped => TimeFound::Stopped,
-        ClockFound::Wrong => time_offset(s, at, hour, 0, 0, Fraction::NONE, false),
-        ClockFound::Cut => time_offset(s, at, hour, 0, 0, Fraction::NONE, true),
+        ClockFound::Wrong => time_offset(s, at, hour, Clock::WHOLE_HOUR, false),
+        ClockFound::Cut => time_offset(s, at, hour, Clock::WHOLE_HOUR, true),
     }
 }
 
@@ -256,7 +380,10 @@ pub fn base_time(s: &[u8], at: usize, choices: Choices) -> TimeFound
 {
     let hour = time_hour(s, at, choices);
     match hour {
-        Number::Got { value, next } => time_after_hour(s, next, value, ends_day(choices, value)),
+        Number::Got { value, next } => {
+            let reading = choices.reading;
+            time_after_hour(s, next, value, ends_day(choices, value), reading)
+        },
         Number::Wrong => TimeFound::Wrong,
         Number::Cut => TimeFound::Cut,
     }

@@ -1,9 +1,11 @@
--- Writing what was read gives back the text's own fraction, up to nine digits; and a fraction that does not fit its digits is read from nothing.
+-- Writing what was read gives back the text's own fraction, up to nine digits, but for one that the standard reading counted as minutes or
+-- seconds; and a fraction that does not fit its digits is read from nothing.
 use Prim.Native.Nat.{ℕ, zero, suc, _+_, _*_, _-_, _≤_, _<_}
 use mathlib.Core.List.{List, [], _∷_, _++_}
 use mathlib.Core.Bool.{Bool, true, false}
 use mathlib.Core.Option.{Option, none}
 use mathlib.Core.Path.{_≡_, refl, sym, ap, _∙_}
+use mathlib.Core.Logic.{_⊎_, inl, inr}
 use native.Mathlib.Omega.{arith}
 use borrow.Author.Tests.{ltb-true, ltb-false, lt-leb, leb-true, ne-eqb}
 use lib.Dec.{ltb, leb, eqb}
@@ -12,8 +14,10 @@ use lib.Seq.{take-all, take-take, take-append-le, length-take-le}
 use Rattle.types.specs.declared.Choices.{Choices}
 use Rattle.types.specs.declared.Fraction.{Fraction}
 use Rattle.types.specs.declared.Offset.{Offset}
+use Rattle.types.specs.declared.Reading.{Reading}
+use Rattle.types.specs.declared.Reading.the-variants.{Old, Standard}
 use Rattle.types.specs.declared.Time.{Time}
-use Rattle.parser.specs.Reading.{no, got, stop, Reader, lit, seq, opt, alt, orElse, and, pick}
+use Rattle.parser.specs.Reading.{no, got, stop, lit, seq, opt, alt, orElse, and, pick}
 use Rattle.parser.specs.Digits.{isDigit, digits, numberFrom, number, runAt, runAs, nanoseconds, fractionOf, fraction}
 use Rattle.parser.specs.Fields.{minute, second, either, precededBy, orZero}
 use Rattle.parser.proofs.Fields.{true≢false, and-first, and-second}
@@ -21,11 +25,14 @@ use Rattle.parser.proofs.Places.{no≢got, stop≢got, got-value, got-place}
 use Rattle.parser.proofs.Runs.{AllDigits, none as no-digit, also, run-digits, zero-digits}
 use Rattle.runs.proofs.Nanoseconds.{nanoseconds-small}
 use Rattle.offset.specs.Rules.{offset}
-use Rattle.time.specs.Rules.{hourOf, endsDay, zeroIf, fractionIf, noFraction, Clock, clockOf, millisecond, secondMillisecond, minuteSecondMillisecond, orMidnight, timeOf, timeOffset, afterHour, baseTime, time}
+use Rattle.time.specs.declared.Clock.{Clock}
+use Rattle.time.specs.declared.Smallest.{Smallest}
+use Rattle.time.specs.declared.Smallest.the-variants.{Hour, Minute, Second}
+use Rattle.time.specs.Rules.{hourOf, endsDay, zeroIf, fractionIf, noFraction, orWhole, smallestOf, digitsCounted, sumOf, clockOf, timeFraction, millisecond, secondMillisecond, minuteSecondMillisecond, behindHour, timeOf, timeOffset, afterHour, baseTime, time}
 use Rattle.writing.specs.Spelling.{padded, fractionSpelling}
 use Rattle.writing.specs.Writing.{Readable}
 use Rattle.writing.proofs.Digits.{length-padded, number-padded, padded-digits}
-use Rattle.writing.proofs.Yields.{seq-found, map-found, OptFound, absent, there, opt-found}
+use Rattle.writing.proofs.Yields.{SeqFound, seq-found, map-found, OptFound, absent, there, opt-found, alt-found}
 use Rattle.time_writer.specs.Ranges.{fractionGiven}
 use Rattle.time_writer.proofs.Laws.{time-within, time-spells}
 
@@ -77,10 +84,12 @@ fraction-kept l some-digit = go (ltb 9 (length d)) refl
     go true e = rw e (first 9 (omega arith) (omega (arith, ltb-true 9 (length d) e)) (omega arith))
     go false e = let few = ltb-false 9 (length d) e in rw e (first (length d) few (omega arith) some-digit ∙ ap (_∷_ 46) (take-all (length d) d (omega arith) ∙ sym (take-all 9 d few)))
 
--- what a clock has of the text at a place: a comma or point and digits stand there and are read, or nothing is
-pub data Keeps (s : List ℕ) (at : ℕ) (c : Clock) (n : ℕ) : Type 0 where
-  nothing : at ≡ n → noFraction ≡ c .fraction → Keeps s at c n
-  digits-at : either 44 46 .reads s at ≡ got tt (at + 1) → at + 1 + length (runAt s (at + 1)) ≡ n → fractionSpelling (c .fraction .digits) (c .fraction .nanosecond) ≡ 46 ∷ take 9 (runAt s (at + 1)) → Keeps s at c n
+-- what a clock has of the text at a place, with a fraction of this unit: a comma or point and digits stand there and are read, or nothing is;
+-- or they are counted, and then all nine digits are stored, or none
+pub data Keeps (u : Smallest) (s : List ℕ) (at : ℕ) (c : Clock) (n : ℕ) : Type 0 where
+  nothing : at ≡ n → noFraction ≡ c .fraction → Keeps u s at c n
+  digits-at : either 44 46 .reads s at ≡ got tt (at + 1) → at + 1 + length (runAt s (at + 1)) ≡ n → fractionSpelling (c .fraction .digits) (c .fraction .nanosecond) ≡ 46 ∷ take 9 (runAt s (at + 1)) → Keeps u s at c n
+  counted : (u ≡ Second → ⊥) → digitsCounted (c .fraction .nanosecond) ≡ c .fraction .digits → Keeps u s at c n
 
 point-place : (s : List ℕ) (at : ℕ) (u : Unit) (m : ℕ) → either 44 46 .reads s at ≡ got u m → at + 1 ≡ m
 unfolding alt lit
@@ -114,59 +123,94 @@ run-of z s at f n e = go z (runAt s at) refl e
         zero true e = made (b ∷ d) i (omega arith) e
         zero false e = absurd (stop≢got e)
 
-pub kept : (z : Bool) (mi se : ℕ) (s : List ℕ) (at : ℕ) (c : Clock) (n : ℕ) → millisecond z mi se .reads s at ≡ got c n → Keeps s at c n
-unfolding millisecond
-kept z mi se s at c n e =
-    let m = map-found (clockOf mi se) (opt point) s at c n e in
-    rw (← m .is) (go (m .value) (opt-found point s at (m .value) n (m .reads)))
-  where
-    point : Reader Fraction
-    point = seq (either 44 46) (λ _. fractionIf z)
+hour-not-second : _≡_ {A = Smallest} Hour Second → ⊥
+hour-not-second e = let z : _≡_ {A = ℕ} 0 1 = cc in omega arith
 
-    go : (o : Option Fraction) → OptFound point s at o n → Keeps s at (clockOf mi se o) n
-    go o (absent eo here) = rw (← eo) (nothing here refl)
-    go o (there f eo r) =
-        let x = seq-found (either 44 46) (λ _. fractionIf z) s at f n r in
+minute-not-second : _≡_ {A = Smallest} Minute Second → ⊥
+minute-not-second e = let z : _≡_ {A = ℕ} 0 1 = cc in omega arith
+
+point-kept : (u : Smallest) (z : Bool) (mi se : ℕ) (s : List ℕ) (at : ℕ) (c : Clock) (n : ℕ) → timeFraction u z mi se .reads s at ≡ got c n → Keeps u s at c n
+unfolding timeFraction sumOf
+point-kept u z mi se s at c n e =
+    let m = map-found (clockOf u mi se) (seq (either 44 46) (λ _. fractionIf z)) s at c n e in
+    rw (← m .is) (go u (m .value) (seq-found (either 44 46) (λ _. fractionIf z) s at (m .value) n (m .reads)))
+  where
+    go : (u : Smallest) (f : Fraction) → SeqFound (either 44 46) (λ _. fractionIf z) s at f n → Keeps u s at (clockOf u mi se f) n
+    go Hour f x = counted hour-not-second refl
+    go Minute f x = counted minute-not-second refl
+    go Second f x =
         let p = point-place s at (x .value) (x .place) (x .first) in
         let d = run-of z s (at + 1) f n (rw (← p) at (x .rest)) in
-        rw (← eo) (digits-at (rw (← p) at (x .first)) (d .ends) (rw (← d .is) (fraction-kept (drop (at + 1) s) (d .some-digit))))
+        digits-at (rw (← p) at (x .first)) (d .ends) (rw (← d .is) (fraction-kept (drop (at + 1) s) (d .some-digit)))
+
+pub kept : (u : Smallest) (z : Bool) (mi se : ℕ) (s : List ℕ) (at : ℕ) (c : Clock) (n : ℕ) → millisecond u z mi se .reads s at ≡ got c n → Keeps u s at c n
+unfolding millisecond
+kept u z mi se s at c n e =
+    let m = map-found (orWhole mi se) (opt (timeFraction u z mi se)) s at c n e in
+    rw (← m .is) (go (m .value) (opt-found (timeFraction u z mi se) s at (m .value) n (m .reads)))
+  where
+    go : (o : Option Clock) → OptFound (timeFraction u z mi se) s at o n → Keeps u s at (orWhole mi se o) n
+    go o (absent eo here) = rw (← eo) (nothing here refl)
+    go o (there k eo r) = rw (← eo) (point-kept u z mi se s at k n r)
 
 -- the fraction of a time that was read: the text has a comma or point somewhere, and the fraction is written as a point and the first nine
--- digits behind it; or it is written as nothing
-pub data TextsOwn (s : List ℕ) (t : Time) : Type 0 where
-  without : fractionSpelling (t .digits) (t .nanosecond) ≡ [] → TextsOwn s t
-  from : (at : ℕ) → either 44 46 .reads s at ≡ got tt (at + 1) → fractionSpelling (t .digits) (t .nanosecond) ≡ 46 ∷ take 9 (runAt s (at + 1)) → TextsOwn s t
+-- digits behind it; or it is written as nothing; or, in the standard reading alone, it was counted, and has all nine digits or none
+pub data TextsOwn (r : Reading) (s : List ℕ) (t : Time) : Type 0 where
+  without : fractionSpelling (t .digits) (t .nanosecond) ≡ [] → TextsOwn r s t
+  from : (at : ℕ) → either 44 46 .reads s at ≡ got tt (at + 1) → fractionSpelling (t .digits) (t .nanosecond) ≡ 46 ∷ take 9 (runAt s (at + 1)) → TextsOwn r s t
+  counted : r ≡ Standard → digitsCounted (t .nanosecond) ≡ t .digits → TextsOwn r s t
 
-no-fraction-own : (s : List ℕ) (h : ℕ) (c : Clock) (o : Option Offset) → noFraction ≡ c .fraction → TextsOwn s (timeOf h c o)
+no-fraction-own : (r : Reading) (s : List ℕ) (h : ℕ) (c : Clock) (o : Option Offset) → noFraction ≡ c .fraction → TextsOwn r s (timeOf h c o)
 unfolding fractionSpelling
-no-fraction-own s h c o e = without (rw (← e))
+no-fraction-own r s h c o e = without (rw (← e))
 
-clock-own : (s : List ℕ) (z : Bool) (h : ℕ) (c : Clock) (o : Option Offset) (at n : ℕ) → minuteSecondMillisecond z .reads s at ≡ got c n → TextsOwn s (timeOf h c o)
+-- a fraction is of a second, or the reading is the standard one
+not-old : (r : Reading) (se : Option ℕ) → (smallestOf r se ≡ Second → ⊥) → r ≡ Standard
+not-old Old se h = absurd (h refl)
+not-old Standard se h = refl
+
+clock-own : (r : Reading) (s : List ℕ) (z : Bool) (h : ℕ) (c : Clock) (o : Option Offset) (at n : ℕ) → minuteSecondMillisecond r z .reads s at ≡ got c n → TextsOwn r s (timeOf h c o)
 unfolding minuteSecondMillisecond secondMillisecond
-clock-own s z h c o at n e =
-    let x = seq-found (precededBy 58 (zeroIf z minute)) (secondMillisecond z) s at c n e in
-    let y = seq-found (opt (precededBy 58 (zeroIf z second))) (λ se. millisecond z (x .value) (orZero se)) s (x .place) c n (x .rest) in
-    go (kept z (x .value) (orZero (y .value)) s (y .place) c n (y .rest))
+clock-own r s z h c o at n e =
+    let x = seq-found (precededBy 58 (zeroIf z minute)) (secondMillisecond r z) s at c n e in
+    let y = seq-found (opt (precededBy 58 (zeroIf z second))) (λ se. millisecond (smallestOf r se) z (x .value) (orZero se)) s (x .place) c n (x .rest) in
+    go (y .value) (kept (smallestOf r (y .value)) z (x .value) (orZero (y .value)) s (y .place) c n (y .rest))
   where
-    go : {p : ℕ} → Keeps s p c n → TextsOwn s (timeOf h c o)
-    go (nothing here e) = no-fraction-own s h c o e
-    go {p} (digits-at point ends is) = from p point is
+    go : (se : Option ℕ) {p : ℕ} → Keeps (smallestOf r se) s p c n → TextsOwn r s (timeOf h c o)
+    go se (nothing here e) = no-fraction-own r s h c o e
+    go se {p} (digits-at point ends is) = from p point is
+    go se (counted other is) = counted (not-old r se other) is
 
-pub base-own : (c : Choices) (s : List ℕ) (at : ℕ) (t : Time) (n : ℕ) → baseTime c .reads s at ≡ got t n → TextsOwn s t
+behind-own : (r : Reading) (s : List ℕ) (z : Bool) (h : ℕ) (c : Clock) (o : Option Offset) (at n : ℕ) → behindHour r z .reads s at ≡ got c n → TextsOwn r s (timeOf h c o)
+unfolding behindHour
+behind-own Old s z h c o at n e = clock-own Old s z h c o at n e
+behind-own Standard s z h c o at n e = go (alt-found (minuteSecondMillisecond Standard z) (timeFraction Hour z 0 0) s at c n e)
+  where
+    hours : Keeps Hour s at c n → TextsOwn Standard s (timeOf h c o)
+    hours (nothing here e) = no-fraction-own Standard s h c o e
+    hours (digits-at point ends is) = from at point is
+    hours (counted other is) = counted refl is
+
+    go : (minuteSecondMillisecond Standard z .reads s at ≡ got c n) ⊎ (timeFraction Hour z 0 0 .reads s at ≡ got c n) → TextsOwn Standard s (timeOf h c o)
+    go (inl e) = clock-own Standard s z h c o at n e
+    go (inr e) = hours (point-kept Hour z 0 0 s at c n e)
+
+pub base-own : (c : Choices) (s : List ℕ) (at : ℕ) (t : Time) (n : ℕ) → baseTime c .reads s at ≡ got t n → TextsOwn (c .reading) s t
 unfolding baseTime afterHour timeOffset
 base-own c s at t n e =
-    let x = seq-found (hourOf (c .edition)) (λ h. afterHour (endsDay (c .edition) h) h) s at t n e in
+    let r = c .reading in
+    let x = seq-found (hourOf (c .edition)) (λ h. afterHour r (endsDay (c .edition) h) h) s at t n e in
     let z = endsDay (c .edition) (x .value) in
-    let y = seq-found (opt (minuteSecondMillisecond z)) (λ k. timeOffset (x .value) (orMidnight k)) s (x .place) t n (x .rest) in
-    let m = map-found (timeOf (x .value) (orMidnight (y .value))) (opt offset) s (y .place) t n (y .rest) in
-    rw (← m .is) (go z (x .value) (m .value) (y .value) (opt-found (minuteSecondMillisecond z) s (x .place) (y .value) (y .place) (y .first)))
+    let y = seq-found (opt (behindHour r z)) (λ k. timeOffset (x .value) (orWhole 0 0 k)) s (x .place) t n (x .rest) in
+    let m = map-found (timeOf (x .value) (orWhole 0 0 (y .value))) (opt offset) s (y .place) t n (y .rest) in
+    rw (← m .is) (go z (x .value) (m .value) (y .value) (opt-found (behindHour r z) s (x .place) (y .value) (y .place) (y .first)))
   where
-    go : (z : Bool) (h : ℕ) (o : Option Offset) (k : Option Clock) {from to : ℕ} → OptFound (minuteSecondMillisecond z) s from k to → TextsOwn s (timeOf h (orMidnight k) o)
-    go z h o k (absent e here) = rw (← e) (no-fraction-own s h (orMidnight none) o refl)
-    go z h o k {from} {to} (there a e r) = rw (← e) (clock-own s z h a o from to r)
+    go : (z : Bool) (h : ℕ) (o : Option Offset) (k : Option Clock) {from to : ℕ} → OptFound (behindHour (c .reading) z) s from k to → TextsOwn (c .reading) s (timeOf h (orWhole 0 0 k) o)
+    go z h o k (absent e here) = rw (← e) (no-fraction-own (c .reading) s h (orWhole 0 0 none) o refl)
+    go z h o k {from} {to} (there a e r) = rw (← e) (behind-own (c .reading) s z h a o from to r)
 
 -- of every text that is read as a time, under every edition
-pub time-own : (c : Choices) (s : List ℕ) (at : ℕ) (t : Time) (n : ℕ) → time c .reads s at ≡ got t n → TextsOwn s t
+pub time-own : (c : Choices) (s : List ℕ) (at : ℕ) (t : Time) (n : ℕ) → time c .reads s at ≡ got t n → TextsOwn (c .reading) s t
 unfolding time
 time-own c s at t n e = let x = seq-found (opt (lit 84)) (λ _. baseTime c) s at t n e in base-own c s (x .place) t n (x .rest)
 

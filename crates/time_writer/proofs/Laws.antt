@@ -1,12 +1,12 @@
 -- Times are read back from their spelling, whole; and only times within the ranges are read from anything. One argument for the editions:
--- both ask whether the hour ends the day.
-use Prim.Native.Nat.{ℕ, _+_, _-_, _/_, _%_, _^_, _≤_, _<_}
+-- both ask whether the hour ends the day; and for the readings: a spelling has its second, and behind that they are one.
+use Prim.Native.Nat.{ℕ, _+_, _*_, _-_, _/_, _%_, _^_, _≤_, _<_}
 use mathlib.Core.List.{List, [], _∷_, _++_, append-assoc, append-nil}
 use mathlib.Core.Bool.{Bool, true, false}
 use mathlib.Core.Option.{Option, some, none}
 use mathlib.Core.Path.{_≡_, refl}
 use native.Mathlib.Omega.{arith}
-use native.Mathlib.Nat.{zero-div}
+use native.Mathlib.Nat.{zero-div, mod-one}
 use borrow.Author.Tests.{le-leb, leb-true, eq-eqb, eqb-true, eqb-false, ne-eqb}
 use lib.Dec.{leb, eqb}
 use lib.IntN.{natAbs}
@@ -16,21 +16,27 @@ use Rattle.types.specs.declared.Edition.{Edition}
 use Rattle.types.specs.declared.Edition.the-variants.{E2004, E2019}
 use Rattle.types.specs.declared.Fraction.{Fraction}
 use Rattle.types.specs.declared.Offset.{Offset}
+use Rattle.types.specs.declared.Reading.{Reading}
+use Rattle.types.specs.declared.Reading.the-variants.{Old, Standard}
 use Rattle.types.specs.declared.Time.{Time}
 use Rattle.types.specs.declared.TimeOffset.{TimeOffset}
 use Rattle.types.specs.declared.TimeOffset.the-variants.{Absent, Given}
 use Rattle.parser.specs.Reading.{lit, seq, opt, pick}
 use Rattle.parser.specs.Digits.{isDigit, field, number, fractionOf}
-use Rattle.parser.specs.Fields.{either, precededBy}
+use Rattle.parser.specs.Fields.{either, precededBy, orZero}
 use Rattle.parser.proofs.Fields.{and-first, and-second}
 use Rattle.parser.proofs.Runs.{AllDigits}
 use Rattle.parser.proofs.Leaves.{From}
 use Rattle.offset.specs.Rules.{offset, offsetHour, offsetZulu}
-use Rattle.time.specs.Rules.{hourOf, endsDay, zeroIf, fractionIf, noFraction, orNoFraction, Clock, clockOf, millisecond, secondMillisecond, minuteSecondMillisecond, orMidnight, orAbsent, timeOf, timeOffset, afterHour, baseTime, time}
+use Rattle.time.specs.declared.Clock.{Clock}
+use Rattle.time.specs.declared.Smallest.{Smallest}
+use Rattle.time.specs.declared.Smallest.the-variants.{Hour, Minute, Second}
+use Rattle.time.specs.Rules.{hourOf, endsDay, zeroIf, fractionIf, noFraction, orWhole, smallestOf, digitsCounted, sumOf, clockOf, timeFraction, millisecond, secondMillisecond, minuteSecondMillisecond, behindHour, orAbsent, timeOf, timeOffset, afterHour, baseTime, time}
+use Rattle.time.proofs.Behind.{of-second}
 use Rattle.writing.specs.Spelling.{padded, signByte, isMinus, isZulu, shiftSpelling, offsetSpelling, clockSpelling, fractionSpelling, timeOffsetSpelling, timeSpelling}
-use Rattle.writing.proofs.Texts.{ReadAs, Refuses, lit-reads, lit-refuses, lit-refuses-end, seq-reads, seq-refuses, map-reads, map-refuses, must-reads, opt-reads, opt-lacks, alt-second, alt-refuses, whole}
+use Rattle.writing.proofs.Texts.{ReadAs, Refuses, lit-reads, lit-refuses, lit-refuses-end, seq-reads, seq-refuses, map-reads, map-refuses, must-reads, opt-reads, opt-lacks, alt-first, alt-second, alt-refuses, whole}
 use Rattle.writing.proofs.Digits.{begins, field-reads, run-reads, fraction-reads}
-use Rattle.writing.proofs.Yields.{Yields, OrLeftOut, seq-yields, map-yields, opt-yields, must-yields, preceded-yields, field-yields, run-as-yields, fraction-yields, anything, absent-within}
+use Rattle.writing.proofs.Yields.{Yields, OrLeftOut, seq-yields, map-yields, opt-yields, alt-yields, must-yields, preceded-yields, field-yields, run-as-yields, fraction-yields, anything, absent-within}
 use Rattle.writing.proofs.Laws.{Spells}
 use Rattle.offset_writer.specs.Ranges.{offsetGiven}
 use Rattle.offset_writer.proofs.Laws.{offset-reads, offset-yields}
@@ -127,10 +133,10 @@ end-reads h c (Given o) e = map-reads _ (opt-reads (offset-reads o [] e))
 
 -- ---- the fraction, and nothing where it has no digits
 
-record Fractional (z : Bool) (f : Fraction) (x : List ℕ) : Type 0 where
-  value : Option Fraction
-  is : orNoFraction value ≡ f
-  reads : ReadAs (opt (seq (either 44 46) (λ _. fractionIf z))) (fractionSpelling (f .digits) (f .nanosecond)) x value
+record Fractional (z : Bool) (m s : ℕ) (f : Fraction) (x : List ℕ) : Type 0 where
+  value : Option Clock
+  is : orWhole m s value ≡ record { minute = m; second = s; fraction = f }
+  reads : ReadAs (opt (timeFraction Second z m s)) (fractionSpelling (f .digits) (f .nanosecond)) x value
 
 -- digits are read by either leaf
 digits-read : (z : Bool) {d x : List ℕ} → number d ≤ upTo z (number d) → AllDigits d → 0 < length d → begins x ≡ false → ReadAs (fractionIf z) d x (fractionOf d)
@@ -141,21 +147,21 @@ front-within : (z : Bool) (n u : ℕ) → n ≤ upTo z 999999999 → n / u ≤ u
 front-within false n u h = omega arith
 front-within true n u h = let none : n ≡ 0 = omega arith in rw none (omega (arith, zero-div u))
 
-fraction-is : (z : Bool) (f : Fraction) (x : List ℕ) → FractionWithin z f → Behind x → Fractional z f x
-unfolding fractionSpelling
-fraction-is z f x w b = go (eqb (f .digits) 0) refl
+fraction-is : (z : Bool) (m s : ℕ) (f : Fraction) (x : List ℕ) → FractionWithin z f → Behind x → Fractional z m s f x
+unfolding fractionSpelling timeFraction
+fraction-is z m s f x w b = go (eqb (f .digits) 0) refl
   where
-    go : (t : Bool) → eqb (f .digits) 0 ≡ t → Fractional z f x
-    go true e = record { value = none; is = no-digits f (fraction-day z w) (eqb-true (f .digits) 0 e); reads = rw e (opt-lacks (seq-refuses _ (alt-refuses (b .no-comma) (b .no-point)))) }
+    go : (t : Bool) → eqb (f .digits) 0 ≡ t → Fractional z m s f x
+    go true e = record { value = none; is = rw (no-digits f (fraction-day z w) (eqb-true (f .digits) 0 e)); reads = rw e (opt-lacks (map-refuses _ (seq-refuses _ (alt-refuses (b .no-comma) (b .no-point))))) }
     go false e =
         let k = f .digits in
         let n = f .nanosecond in
         let d = fraction-back n k (fraction-day z w .nanosecond) (w .fits) in
         let some-digit : 0 < k = let h = eqb-false k 0 e in omega arith in
         record {
-          value = some (fractionOf (take k (padded 9 n)));
-          is = d .fraction;
-          reads = rw e (opt-reads (seq-reads _ (alt-second (lit-refuses 44 refl) (lit-reads 46 _)) (digits-read z (rw (d .number) (front-within z n (10 ^ (9 - k)) (w .nanosecond))) (d .digits) (omega (arith, d .size)) (b .no-digit))));
+          value = some (clockOf Second m s (fractionOf (take k (padded 9 n))));
+          is = rw (d .fraction);
+          reads = rw e (opt-reads (map-reads _ (seq-reads _ (alt-second (lit-refuses 44 refl) (lit-reads 46 _)) (digits-read z (rw (d .number) (front-within z n (10 ^ (9 - k)) (w .nanosecond))) (d .digits) (omega (arith, d .size)) (b .no-digit)))));
         }
 
 -- ---- all of it
@@ -175,13 +181,21 @@ zero-reads true hi v x h k = must-reads _ 1 (eq-eqb v 0 (omega arith)) (field-re
 colon-reads : (z : Bool) (hi v : ℕ) (x : List ℕ) → v ≤ upTo z hi → hi ≤ 99 → ReadAs (precededBy 58 (zeroIf z (field 2 0 hi))) (58 ∷ padded 2 v) x v
 colon-reads z hi v x h k = seq-reads _ (opt-reads (lit-reads 58 _)) (zero-reads z hi v x h k)
 
-clock-reads : (z : Bool) (m s : ℕ) (k : Fraction) (x : List ℕ) → Within z m s k → Behind x → ReadAs (minuteSecondMillisecond z) ((58 ∷ padded 2 m) ++ ((58 ∷ padded 2 s) ++ fractionSpelling (k .digits) (k .nanosecond))) x (record { minute = m; second = s; fraction = k })
+-- the minute, the second and the fraction, as they are spelled
+abbrev behindSpelling : ℕ → ℕ → Fraction → List ℕ
+behindSpelling m s k = (58 ∷ padded 2 m) ++ ((58 ∷ padded 2 s) ++ fractionSpelling (k .digits) (k .nanosecond))
+
+clock-reads : (r : Reading) (z : Bool) (m s : ℕ) (k : Fraction) (x : List ℕ) → Within z m s k → Behind x → ReadAs (minuteSecondMillisecond r z) (behindSpelling m s k) x (record { minute = m; second = s; fraction = k })
 unfolding minuteSecondMillisecond secondMillisecond millisecond
-clock-reads z m s k x w b =
-    let f = fraction-is z k x (w .fraction) b in
-    let whole : clockOf m s (f .value) ≡ record { minute = m; second = s; fraction = k } = rw (f .is) in
-    rw (← whole)
-    (seq-reads _ (colon-reads z 59 m _ (w .minute) (omega arith)) (seq-reads _ (opt-reads (colon-reads z 60 s _ (w .second) (omega arith))) (map-reads (clockOf m s) (f .reads))))
+clock-reads r z m s k x w b =
+    let f = fraction-is z m s k x (w .fraction) b in
+    rw (← f .is)
+    (seq-reads _ (colon-reads z 59 m _ (w .minute) (omega arith)) (seq-reads _ (opt-reads (colon-reads z 60 s _ (w .second) (omega arith))) (rw (of-second r s) (map-reads (orWhole m s) (f .reads)))))
+
+behind-reads : (r : Reading) (z : Bool) (m s : ℕ) (k : Fraction) (x : List ℕ) → Within z m s k → Behind x → ReadAs (behindHour r z) (behindSpelling m s k) x (record { minute = m; second = s; fraction = k })
+unfolding behindHour
+behind-reads Old z m s k x w b = clock-reads Old z m s k x w b
+behind-reads Standard z m s k x w b = alt-first (timeFraction Hour z 0 0) (clock-reads Standard z m s k x w b)
 
 pub base-reads : (c : Choices) (t : Time) → timeGiven c t ≡ true → ReadAs (baseTime c) (timeSpelling t) [] t
 unfolding baseTime afterHour timeSpelling clockSpelling
@@ -191,7 +205,7 @@ base-reads c t e =
     let same : timeSpelling t ≡ padded 2 (t .hour) ++ (((58 ∷ padded 2 (t .minute)) ++ ((58 ∷ padded 2 (t .second)) ++ fractionSpelling (t .digits) (t .nanosecond))) ++ o) = simp append-assoc in
     rw same
     (seq-reads _ (hour-reads (c .edition) (t .hour) _ (w .hour))
-    (seq-reads _ (opt-reads (clock-reads _ (t .minute) (t .second) (fractionIn t) _ (w .behind) (rw (append-nil o) (offset-behind (t .offset))))) (end-reads (t .hour) _ (t .offset) (w .offset))))
+    (seq-reads _ (opt-reads (behind-reads (c .reading) _ (t .minute) (t .second) (fractionIn t) _ (w .behind) (rw (append-nil o) (offset-behind (t .offset))))) (end-reads (t .hour) _ (t .offset) (w .offset))))
 
 -- no `T` stands in front of the hour
 no-t : (t : Time) → Refuses (lit 84) (timeSpelling t ++ [])
@@ -222,19 +236,57 @@ no-fraction-within z = record { nanosecond = omega arith; fits = refl }
 abbrev ClockWithin : Bool → Clock → Type 0
 ClockWithin z c = Within z (c .minute) (c .second) (c .fraction)
 
-clock-yields : (z : Bool) → Yields (ClockWithin z) (minuteSecondMillisecond z)
-unfolding minuteSecondMillisecond secondMillisecond millisecond
-clock-yields z =
-    seq-yields _ (preceded-yields 58 (zero-yields z 59)) (λ m fm. seq-yields _ (opt-yields (preceded-yields 58 (zero-yields z 60))) (λ s fs.
-    map-yields _ (λ f ff. record { minute = fm .1; second = absent-within (upTo z 60) s fs; fraction = absent f ff }) (opt-yields (seq-yields _ (anything (either 44 46)) (λ u y. digits-yield z)))))
+-- of what was counted there are all nine digits, or none
+counted-fits : (x : ℕ) → fractionGiven (digitsCounted x) x ≡ true
+unfolding fractionGiven
+counted-fits x = go (eqb x 0) refl
   where
-    absent : (f : Option Fraction) → OrLeftOut (FractionWithin z) f → FractionWithin z (orNoFraction f)
-    absent none h = no-fraction-within z
-    absent (some f) h = h
+    go : (t : Bool) → eqb x 0 ≡ t → fractionGiven (digitsCounted x) x ≡ true
+    go true e = rw (eqb-true x 0 e)
+    go false e = rw (e, mod-one x)
 
-or-midnight : (z : Bool) (c : Option Clock) → OrLeftOut (ClockWithin z) c → ClockWithin z (orMidnight c)
-or-midnight z none h = record { minute = omega arith; second = omega arith; fraction = no-fraction-within z }
-or-midnight z (some c) h = h
+-- a sum that stays below an hour, or of nothing where all has to be 0
+sum-within : (z : Bool) (m n : ℕ) → m + n / 60000000000 ≤ upTo z 59 → n ≤ upTo z n → ClockWithin z (sumOf m n)
+unfolding sumOf
+sum-within true m n h few = let e : n ≡ 0 = omega arith in let f : m ≡ 0 = omega arith in rw (e, f) (record { minute = omega arith; second = omega arith; fraction = no-fraction-within true })
+sum-within false m n h few = record { minute = h; second = omega arith; fraction = record { nanosecond = omega arith; fits = counted-fits (n % 1000000000) } }
+
+all-zero : (z : Bool) (times n : ℕ) → n ≤ upTo z 999999999 → times * n ≤ upTo z (times * n)
+all-zero true times n h = let e : n ≡ 0 = omega arith in rw e (omega arith)
+all-zero false times n h = omega arith
+
+point-yields : (u : Smallest) (z : Bool) (m s : ℕ) → ((f : Fraction) → FractionWithin z f → ClockWithin z (clockOf u m s f)) → Yields (ClockWithin z) (timeFraction u z m s)
+unfolding timeFraction
+point-yields u z m s h = map-yields _ h (seq-yields _ (anything (either 44 46)) (λ u y. digits-yield z))
+
+or-whole : (z : Bool) (m s : ℕ) → m ≤ upTo z 59 → s ≤ upTo z 60 → (c : Option Clock) → OrLeftOut (ClockWithin z) c → ClockWithin z (orWhole m s c)
+or-whole z m s hm hs none h = record { minute = hm; second = hs; fraction = no-fraction-within z }
+or-whole z m s hm hs (some c) h = h
+
+clock-yields : (r : Reading) (z : Bool) → Yields (ClockWithin z) (minuteSecondMillisecond r z)
+unfolding minuteSecondMillisecond secondMillisecond millisecond
+clock-yields r z =
+    seq-yields _ (preceded-yields 58 (zero-yields z 59)) (λ m fm. seq-yields _ (opt-yields (preceded-yields 58 (zero-yields z 60))) (λ s fs.
+    let hs = absent-within (upTo z 60) s fs in
+    map-yields _ (or-whole z m (orZero s) (fm .1) hs) (opt-yields (point-yields (smallestOf r s) z m (orZero s) (counted r s m (fm .1) hs)))))
+  where
+    counted : (r : Reading) (s : Option ℕ) (m : ℕ) → m ≤ upTo z 59 → orZero s ≤ upTo z 60 → (f : Fraction) → FractionWithin z f → ClockWithin z (clockOf (smallestOf r s) m (orZero s) f)
+    counted Old s m hm hs f w = record { minute = hm; second = hs; fraction = w }
+    counted Standard (some s) m hm hs f w = record { minute = hm; second = hs; fraction = w }
+    counted Standard none m hm hs f w = sum-within z m (60 * f .nanosecond) (minutes z hm (w .nanosecond)) (all-zero z 60 (f .nanosecond) (w .nanosecond))
+      where
+        minutes : (z : Bool) → m ≤ upTo z 59 → f .nanosecond ≤ upTo z 999999999 → m + 60 * f .nanosecond / 60000000000 ≤ upTo z 59
+        minutes true hm hn = omega (arith, hm, hn)
+        minutes false hm hn = omega (arith, hm, hn)
+
+behind-yields : (r : Reading) (z : Bool) → Yields (ClockWithin z) (behindHour r z)
+unfolding behindHour
+behind-yields Old z = clock-yields Old z
+behind-yields Standard z = alt-yields (clock-yields Standard z) (point-yields Hour z 0 0 (λ f w. sum-within z 0 (3600 * f .nanosecond) (minutes z f (w .nanosecond)) (all-zero z 3600 (f .nanosecond) (w .nanosecond))))
+  where
+    minutes : (z : Bool) (f : Fraction) → f .nanosecond ≤ upTo z 999999999 → 0 + 3600 * f .nanosecond / 60000000000 ≤ upTo z 59
+    minutes true f hn = omega (arith, hn)
+    minutes false f hn = omega (arith, hn)
 
 given-of : (k : Choices) (h : ℕ) (c : Clock) (o : Option Offset) → h ≤ lastHour (k .edition) → ClockWithin (endsDay (k .edition) h) c → OrLeftOut (λ o. offsetGiven o ≡ true) o → timeGiven k (timeOf h c o) ≡ true
 unfolding timeGiven clockGiven timeOffsetGiven
@@ -249,8 +301,8 @@ given-of k h c o hh w g =
 pub base-yields : (c : Choices) → Yields (λ t. timeGiven c t ≡ true) (baseTime c)
 unfolding baseTime afterHour timeOffset
 base-yields c =
-    seq-yields _ (hour-yields (c .edition)) (λ h fh. seq-yields _ (opt-yields (clock-yields (endsDay (c .edition) h))) (λ k fk.
-    map-yields _ (λ o fo. given-of c h (orMidnight k) o (fh .1) (or-midnight (endsDay (c .edition) h) k fk) fo) (opt-yields offset-yields)))
+    seq-yields _ (hour-yields (c .edition)) (λ h fh. seq-yields _ (opt-yields (behind-yields (c .reading) (endsDay (c .edition) h))) (λ k fk.
+    map-yields _ (λ o fo. given-of c h (orWhole 0 0 k) o (fh .1) (or-whole (endsDay (c .edition) h) 0 0 (omega arith) (omega arith) k fk) fo) (opt-yields offset-yields)))
 
 time-yields : (c : Choices) → Yields (λ t. timeGiven c t ≡ true) (time c)
 unfolding time

@@ -21,15 +21,24 @@ pub enum Edition {
     E2019,
 }
 
+// What a fraction counts as where no second was written. Old: a fraction of a second, as in document 01. Standard: a fraction of the
+// smallest unit written, as in ISO 8601, and then it may follow the hour too.
+pub enum Reading {
+    Old,
+    Standard,
+}
+
 // What a caller chooses for times and date-times.
 pub struct Choices {
     pub edition: Edition,
+    pub reading: Reading,
 }
 
 impl Choices {
     // Document 01 as it stands.
     pub const DOCUMENT_01: Choices = Choices {
         edition: Edition::E2019,
+        reading: Reading::Old,
     };
 }
 

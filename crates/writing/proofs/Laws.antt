@@ -44,6 +44,10 @@ module _ {A : Type 0} {p : Reader A} {text : A → List ℕ} {given : A → Bool
   pub one-record : (a b : A) → Readable p a → Readable p b → text a ≡ text b → a ≡ b
   one-record a b r q e = got-value {n = length (text b)} (sym (k .back a (k .ranges a r)) ∙ rw e (k .back b (k .ranges b q)))
 
+-- where two rules have the same spellings, within the same ranges, what the one reads is read back by the other
+pub read-back-by : {A : Type 0} {p q : Reader A} {text : A → List ℕ} {given : A → Bool} → Spells p text given → Spells q text given → (a : A) → Readable p a → Ended q (text a) (recorded a (length (text a)))
+read-back-by k l a r = read-back l a (readable l a (k .ranges a r))
+
 -- ---- how long a spelling is
 
 module _ {A : Type 0} {p : Reader A} {a : A} {text : List ℕ} where

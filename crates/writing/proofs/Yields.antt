@@ -4,6 +4,7 @@ use mathlib.Core.List.{List, [], _∷_}
 use mathlib.Core.Bool.{Bool, true, false}
 use mathlib.Core.Option.{Option, some, none}
 use mathlib.Core.Path.{_≡_, refl, ap, _∙_}
+use mathlib.Core.Logic.{_⊎_, inl, inr}
 use native.Mathlib.Omega.{arith}
 use borrow.Author.Tests.{leb-true}
 use lib.Dec.{leb}
@@ -59,6 +60,15 @@ opt-found {A} p s at o n e = go (p .reads s at) refl e
     go (stop r) ex e = absurd (stop≢got e)
     go (got a m) ex e = there a (got-value e) (ex ∙ ap (got a) (got-place e))
 
+pub alt-found : {A : Type 0} (p q : Reader A) (s : List ℕ) (at : ℕ) (a : A) (n : ℕ) → alt p q .reads s at ≡ got a n → (p .reads s at ≡ got a n) ⊎ (q .reads s at ≡ got a n)
+unfolding alt
+alt-found {A} p q s at a n e = go (p .reads s at) refl e
+  where
+    go : (x : Found A) → p .reads s at ≡ x → orElse x (q .reads s at) ≡ got a n → (p .reads s at ≡ got a n) ⊎ (q .reads s at ≡ got a n)
+    go no ex e = inr e
+    go (stop r) ex e = absurd (stop≢got e)
+    go (got b m) ex e = inl (ex ∙ e)
+
 -- ---- one law for each combinator
 
 pub record Yields {A : Type 0} (F : A → Type 0) (p : Reader A) : Type 0 where
@@ -90,13 +100,11 @@ module _ {A : Type 0} {E : A → Type 0} {p : Reader A} where
       go s at o n (there a e r) = rw (← e) (h .fact s at a n r)
 
   pub alt-yields : {q : Reader A} → Yields E p → Yields E q → Yields E (alt p q)
-  unfolding alt
-  alt-yields {q} h k = record { fact = λ s at b n e. go (p .reads s at) (q .reads s at) b n (h .fact s at) (k .fact s at) e }
+  alt-yields {q} h k = record { fact = λ s at a n e. go s at a n (alt-found p q s at a n e) }
     where
-      go : (x y : Found A) (b : A) (n : ℕ) → ((a : A) (m : ℕ) → x ≡ got a m → E a) → ((a : A) (m : ℕ) → y ≡ got a m → E a) → orElse x y ≡ got b n → E b
-      go no y b n g j e = j b n e
-      go (stop r) y b n g j e = absurd (stop≢got e)
-      go (got a m) y b n g j e = g b n e
+      go : (s : List ℕ) (at : ℕ) (a : A) (n : ℕ) → (p .reads s at ≡ got a n) ⊎ (q .reads s at ≡ got a n) → E a
+      go s at a n (inl e) = h .fact s at a n e
+      go s at a n (inr e) = k .fact s at a n e
 
   -- and it passed the test
   module _ {F : A → Type 0} (f : A → Bool) (i : (a : A) → E a → f a ≡ true → F a) where

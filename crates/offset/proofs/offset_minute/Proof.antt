@@ -51,7 +51,7 @@ returns : tie.Need-returns
 returns c =
     let a = c .before .before .before .before .args in
     let part = rw (← c .before .or-left-out .ensures) at (left-out (precededBy 58 minute) (a .s .now) (a .at) (c .before .before .after-colon .result) (c .before .before .after-colon .ensures)) in
-    made (a .minus) (a .hour) (a .s .now) (a .at) (part .what) _ _ (c .signed-offset .result) (part .says) (rw (← part .value) (c .signed-offset .ensures .0)) (c .signed-offset .ensures .1)
+    made (a .minus) (a .hour) (a .s .now) (a .at) _ _ _ (c .signed-offset .result) (part .says) (rw (← part .value) (c .signed-offset .ensures .0)) (c .signed-offset .ensures .1)
 
 pub offset-minute-spec : {M : Type 1} → statement M
 offset-minute-spec =

@@ -1,7 +1,6 @@
--- By the second byte, if there is one.
-use borrow.Author.Tests.{eq-eqb, ne-eqb}
+-- By the byte behind the letter.
+use mathlib.Core.Path.{sym, _∙_}
 use borrow.Author.Needs.{needs}
-use lib.ListN.{List·getD-eq-default}
 use Rattle.reply.specs.Line.{headOf}
 use Rattle.reply.proofs.head_of.Statement.{statement}
 use Rattle.reply.proofs.head_of.Tie as tie
@@ -11,7 +10,8 @@ unfolding headOf
 head-of-spec =
     tie.close
     (tie.spec
-    (λ c. search needs)
-    (λ c. rw (eq-eqb _ _ (c .if2 .taken)))
-    (λ c. rw (ne-eqb _ _ (c .if2 .left)))
-    (λ c. rw (List·getD-eq-default (c .before .args .line .now) 0 (c .if1 .left))))
+    (λ c κs. search needs)
+    (λ c κs. search needs)
+    (λ c. rw (sym (c .before .before .has .ensures) ∙ c .before .if1 .taken) (c .head-from .ensures))
+    (λ c κs. search needs)
+    (λ c. rw (sym (c .before .before .has .ensures) ∙ c .before .if1 .left) (c .head-from2 .ensures)))

@@ -9,4 +9,6 @@ choices-of-spec =
     (tie.spec
     (λ c. rw (c .match .keys1))
     (λ c. rw (c .match .keys2))
-    (λ c. let none = c .match .rest in rw (ne-eqb _ _ (none .0 .1), ne-eqb _ _ (none .1))))
+    (λ c. rw (c .match .keys3))
+    (λ c. rw (c .match .keys4))
+    (λ c. let none = c .match .rest in rw (ne-eqb _ _ (none .0 .0 .0 .1), ne-eqb _ _ (none .0 .0 .1), ne-eqb _ _ (none .0 .1), ne-eqb _ _ (none .1))))

@@ -29,19 +29,19 @@ unfolding baseTime
 returns c =
     let a = c .before .before .before .before .before .before .before .args in
     let e = a .choices .edition in
-    says-seq-got (hourOf e) (a .s .now) (a .at) (λ h. afterHour (endsDay e h) h) _ _ false _ _ (rw (c .before .before .before .hour .given .1) at (c .before .before .before .before .before .time-hour .ensures)) (rw (c .before .ends-day .ensures) at (c .time-after-hour .ensures))
+    says-seq-got (hourOf e) (a .s .now) (a .at) (λ h. afterHour (a .choices .reading) (endsDay e h) h) _ _ false _ _ (rw (c .before .before .before .hour .given .1) at (c .before .before .before .before .before .time-hour .ensures)) (rw (c .before .ends-day .ensures) at (c .time-after-hour .ensures))
 
 returns-2 : tie.Need-returns-2
 unfolding baseTime
 returns-2 c =
     let a = c .before .before .before .before .args in
-    says-seq-no (hourOf (a .choices .edition)) (a .s .now) (a .at) (λ h. afterHour (endsDay (a .choices .edition) h) h) false (rw (c .enum-told .given .1) at (c .before .before .time-hour .ensures))
+    says-seq-no (hourOf (a .choices .edition)) (a .s .now) (a .at) (λ h. afterHour (a .choices .reading) (endsDay (a .choices .edition) h) h) false (rw (c .enum-told .given .1) at (c .before .before .time-hour .ensures))
 
 returns-3 : tie.Need-returns-3
 unfolding baseTime
 returns-3 c =
     let a = c .before .before .before .before .args in
-    says-seq-no (hourOf (a .choices .edition)) (a .s .now) (a .at) (λ h. afterHour (endsDay (a .choices .edition) h) h) true (rw (c .enum-told2 .given .1) at (c .before .before .time-hour .ensures))
+    says-seq-no (hourOf (a .choices .edition)) (a .s .now) (a .at) (λ h. afterHour (a .choices .reading) (endsDay (a .choices .edition) h) h) true (rw (c .enum-told2 .given .1) at (c .before .before .time-hour .ensures))
 
 pub base-time-spec : {M : Type 1} → statement M
 base-time-spec =

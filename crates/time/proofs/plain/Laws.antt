@@ -14,7 +14,7 @@ use Rattle.types.specs.declared.Edition.the-variants.{E2004, E2019}
 use Rattle.types.specs.declared.Fraction.{Fraction}
 use Rattle.types.specs.declared.Time.{Time}
 use Rattle.types.specs.declared.TimeOffset.the-variants.{Absent, Given}
-use Rattle.parser.specs.Reading.{no, got, Reader, lit, seq, opt, alt, or, Says}
+use Rattle.parser.specs.Reading.{no, got, Reader, lit, seq, opt, alt, map, or, Says}
 use Rattle.parser.specs.Digits.{isDigit, fraction, reach, lowest, highest}
 use Rattle.parser.specs.Fields.{hour, minute, second, either, precededBy, orZero}
 use Rattle.parser.proofs.Fields.{OtherAt}
@@ -32,10 +32,13 @@ use Rattle.looks.proofs.Two.{two-is, two-field, preceded-two, digit-no}
 use Rattle.looks.proofs.Thousandths.{milliseconds, three-end, three-other}
 use Rattle.offset.specs.Rules.{offset}
 use Rattle.offset.proofs.plain.Laws.{Starts, zulu, sign, end-says, plain-end, plain-read}
-use Rattle.time.specs.Rules.{Clock, hourOf, endsDay, noFraction, clockOf, millisecond, secondMillisecond, minuteSecondMillisecond, orMidnight, timeOf, timeOffset, afterHour, baseTime, time}
+use Rattle.time.specs.declared.Clock.{Clock}
+use Rattle.time.specs.declared.Smallest.the-variants.{Second}
+use Rattle.time.specs.Rules.{hourOf, endsDay, noFraction, orWhole, smallestOf, clockOf, timeFraction, millisecond, secondMillisecond, minuteSecondMillisecond, behindHour, timeOf, timeOffset, afterHour, baseTime, time}
 use Rattle.time.specs.Plain.{timeWith, withOffset, plainTime, firstPlain}
 use Rattle.time.specs.declared.plain.PlainTime.{PlainTime}
 use Rattle.time.specs.declared.plain.PlainTime.the-variants as time
+use Rattle.time.proofs.Behind.{of-second, behind-got}
 
 no-time : {t : Time} {n : ℕ} {m : Bool} → time.Other ≡ time.Got t n m → ⊥
 no-time e = let z : _≡_ {A = ℕ} 0 1 = cc in omega arith
@@ -84,6 +87,9 @@ module _ (s : List ℕ) (at mi se : ℕ) where
   abbrev point : Reader Fraction
   point = seq (either 44 46) (λ _. fraction)
 
+  abbrev written : Fraction → Clock
+  written = clockOf Second mi se
+
   no-point : (more : Bool) → Behind s at more → Says (either 44 46) s at no more
   unfolding alt lit
   no-point more (end l) = let i = le-ltb at (length s) l in record { found = simp i; more = simp i }
@@ -91,9 +97,9 @@ module _ (s : List ℕ) (at mi se : ℕ) where
   no-point more (byte l (sign true e)) = let i = lt-ltb at (length s) l in record { found = simp (i, e); more = simp (i, e) }
   no-point more (byte l (sign false e)) = let i = lt-ltb at (length s) l in record { found = simp (i, e); more = simp (i, e) }
 
-  none-says : (more : Bool) → Behind s at more → Says (millisecond false mi se) s at (got (clockWith mi se noFraction) at) more
-  unfolding millisecond
-  none-says more b = says-map (opt point) s at (clockOf mi se) _ more (says-opt point s at no more (says-seq-no (either 44 46) s at (λ _. fraction) more (no-point more b)))
+  none-says : (more : Bool) → Behind s at more → Says (millisecond Second false mi se) s at (got (clockWith mi se noFraction) at) more
+  unfolding millisecond timeFraction
+  none-says more b = says-map (opt (map written point)) s at (orWhole mi se) _ more (says-opt (map written point) s at no more (says-map point s at written no more (says-seq-no (either 44 46) s at (λ _. fraction) more (no-point more b))))
 
   -- what was seen of a point and three digits
   record Point (ms : ℕ) : Type 0 where
@@ -141,11 +147,11 @@ module _ (s : List ℕ) (at mi se : ℕ) where
       by-end more (end l) = rw (p, q, r) at (three-end s (at + 1) (omega (arith, x .long)) (x .first) (rw (p, q) (x .rest)) (omega (arith, l)))
       by-end more (byte l e) = rw (p, q, r) at (three-other s (at + 1) (omega (arith, x .long)) (x .first) (rw (p, q) (x .rest)) (rw r (other l e)))
 
-  some-says : (ms : ℕ) → Point ms → (more : Bool) → Behind s (at + 4) more → Says (millisecond false mi se) s at (got (clockWith mi se (milliseconds ms)) (at + 4)) more
-  unfolding millisecond
+  some-says : (ms : ℕ) → Point ms → (more : Bool) → Behind s (at + 4) more → Says (millisecond Second false mi se) s at (got (clockWith mi se (milliseconds ms)) (at + 4)) more
+  unfolding millisecond timeFraction
   some-says ms x more b =
-      says-map (opt point) s at (clockOf mi se) _ more
-      (says-opt point s at _ more (says-seq-got (either 44 46) s at (λ _. fraction) tt (at + 1) false _ more (point-says x) (digits-say ms x more b)))
+      says-map (opt (map written point)) s at (orWhole mi se) _ more
+      (says-opt (map written point) s at _ more (says-map point s at written _ more (says-seq-got (either 44 46) s at (λ _. fraction) tt (at + 1) false _ more (point-says x) (digits-say ms x more b))))
 
 -- ---- the clock
 
@@ -221,16 +227,18 @@ module _ (s : List ℕ) (at h m x : ℕ) where
         let r : at + 5 + 3 ≡ at + 8 = omega arith in
         rw (p, q, r, y .last) at (preceded-two s (at + 5) 58 0 60 (omega (arith, y .long)) (y .second) refl (rw (p, q) (y .seconds)))
 
-    base-says : (c : Choices) (n : Fraction) (place : ℕ) (t : Time) (next : ℕ) (more : Bool) → Says (millisecond false m x) s (at + 8) (got (clockWith m x n) place) more → Tail s place h m x n t next more → Says (baseTime c) s at (got t next) more
+    base-says : (c : Choices) (n : Fraction) (place : ℕ) (t : Time) (next : ℕ) (more : Bool) → Says (millisecond Second false m x) s (at + 8) (got (clockWith m x n) place) more → Tail s place h m x n t next more → Says (baseTime c) s at (got t next) more
     unfolding baseTime afterHour minuteSecondMillisecond secondMillisecond
     base-says c n place t next more f b =
+        let r = c .reading in
         rw (or-same more) at
-        (says-seq-got (hourOf (c .edition)) s at (λ h. afterHour (endsDay (c .edition) h) h) h (at + 2) false (got t next) (or more more) (hour-of (c .edition))
+        (says-seq-got (hourOf (c .edition)) s at (λ h. afterHour r (endsDay (c .edition) h) h) h (at + 2) false (got t next) (or more more) (hour-of (c .edition))
         (rw (no-end (c .edition))
-        (says-seq-got (opt (minuteSecondMillisecond false)) s (at + 2) (λ c. timeOffset h (orMidnight c)) (some (clockWith m x n)) place more (got t next) more
-        (says-opt (minuteSecondMillisecond false) s (at + 2) (got (clockWith m x n) place) more
-        (says-seq-got (precededBy 58 minute) s (at + 2) (secondMillisecond false) m (at + 5) false (got (clockWith m x n) place) more minute-says
-        (says-seq-got (opt (precededBy 58 second)) s (at + 5) (λ se. millisecond false m (orZero se)) (some x) (at + 8) false _ more (says-opt (precededBy 58 second) s (at + 5) _ false second-says) f)))
+        (says-seq-got (opt (behindHour r false)) s (at + 2) (λ c. timeOffset h (orWhole 0 0 c)) (some (clockWith m x n)) place more (got t next) more
+        (says-opt (behindHour r false) s (at + 2) (got (clockWith m x n) place) more
+        (behind-got false s (at + 2) r (clockWith m x n) place more
+        (says-seq-got (precededBy 58 minute) s (at + 2) (secondMillisecond r false) m (at + 5) false (got (clockWith m x n) place) more minute-says
+        (says-seq-got (opt (precededBy 58 second)) s (at + 5) (λ se. millisecond (smallestOf r se) false m (orZero se)) (some x) (at + 8) false _ more (says-opt (precededBy 58 second) s (at + 5) _ false second-says) (rw (of-second r x) f)))))
         (b .says))))
 
 -- ---- together

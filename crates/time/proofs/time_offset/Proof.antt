@@ -8,7 +8,8 @@ use Rattle.types.specs.declared.Offset.{Offset}
 use Rattle.parser.specs.Reading.{Says, SaysOn, got, opt, or}
 use Rattle.parser.proofs.Says.{or-false, or-true, says-opt, says-on, on-map}
 use Rattle.offset.specs.Rules.{offset}
-use Rattle.time.specs.Rules.{Clock, timeOf, timeOffset}
+use Rattle.time.specs.declared.Clock.{Clock}
+use Rattle.time.specs.Rules.{timeOf, timeOffset}
 use borrow.Author.Needs.{needs}
 use Rattle.time.proofs.time_offset.Statement.{statement}
 use Rattle.time.proofs.time_offset.Tie as tie
