@@ -7,7 +7,7 @@ use lib.IntN.{ℤ, pos}
 use lib.ListN.{length}
 use Rattle.types.specs.declared.Verdict.{Verdict}
 use Rattle.parser.specs.Reading.{lit, seq, opt, alt, verify, map, give}
-use Rattle.parser.specs.Digits.{digitsFrom, digitsMore, lowest, highest, reach, field, digits, numberFrom, runAs, fraction}
+use Rattle.parser.specs.Digits.{digitsFrom, digitsMore, lowest, highest, reach, field, digits, numberFrom, runAs}
 use Rattle.parser.specs.Answer.{Told, begun, ended, verdictOf, Begins, Ended}
 use Rattle.types.specs.Sums.{minutesInAll}
 use Rattle.kinds.specs.declared.answer.Record.{Record}
@@ -58,7 +58,7 @@ each f (a ∷ l) = f a ∷ each f l
 
 -- the test: the rules make of every row what it states
 sixteen-compute : each computed table ≡ each stated table
-unfolding stated computed asked each table lit seq opt alt verify map give field digitsFrom digitsMore reach lowest highest digits numberFrom runAs fraction offset-rules.offsetMinute offset-rules.offsetHour offset-rules.offsetZulu offset-rules.offset time-rules.timeFraction time-rules.millisecond time-rules.secondMillisecond time-rules.minuteSecondMillisecond time-rules.behindHour time-rules.timeOffset time-rules.afterHour time-rules.baseTime time-rules.time date-rules.year date-rules.dayOfWeek date-rules.weekAndDay date-rules.mdNumeric date-rules.ordinal date-rules.dayOfMonth date-rules.monthAndDay date-rules.date datetime-rules.timeOf datetime-rules.afterDate datetime-rules.dateTime duration-rules.part duration-rules.durationBaseTime duration-rules.durationTime duration-rules.partsRule duration-rules.duration
+unfolding stated computed asked each table lit seq opt alt verify map give field digitsFrom digitsMore reach lowest highest digits numberFrom runAs offset-rules.offsetMinute offset-rules.offsetHour offset-rules.offsetZulu offset-rules.offset time-rules.timeFraction time-rules.millisecond time-rules.secondMillisecond time-rules.minuteSecondMillisecond time-rules.behindHour time-rules.timeOffset time-rules.afterHour time-rules.baseTime time-rules.time date-rules.year date-rules.dayOfWeek date-rules.weekAndDay date-rules.mdNumeric date-rules.ordinal date-rules.dayOfMonth date-rules.monthAndDay date-rules.date datetime-rules.timeOf datetime-rules.afterDate datetime-rules.dateTime duration-rules.part duration-rules.durationBaseTime duration-rules.durationTime duration-rules.partsRule duration-rules.duration
 sixteen-compute = refl
 
 -- what is said where something is named

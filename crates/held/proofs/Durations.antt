@@ -8,20 +8,16 @@ use borrow.Author.Tests.{le-leb, leb-true}
 use lib.IntN.{ℤ, pos, negsuc}
 use Rattle.types.specs.declared.Duration.{Duration}
 use Rattle.parser.specs.Reading.{and}
-use Rattle.parser.proofs.Fields.{true≢false, and-first, and-second}
+use Rattle.parser.proofs.Fields.{true≢false, and-first, and-true, and-second}
 use Rattle.slots.specs.Slots.{durationSlots}
 use Rattle.slots.proofs.Stores.{_then_}
 use Rattle.duration_writer.specs.Ranges.{durationGiven}
 use Rattle.duration_writer.proofs.Within.{given-within}
 use Rattle.held.specs.Held.{Natural, isNatural, naturals, Made}
 
-and-true : (b : Bool) → b ≡ and b true
-and-true true = refl
-and-true false = refl
-
 pub seven : (a b c d e f g : ℤ) → and (isNatural a) (and (isNatural b) (and (isNatural c) (and (isNatural d) (and (isNatural e) (and (isNatural f) (isNatural g)))))) ≡ naturals (a ∷ b ∷ c ∷ d ∷ e ∷ f ∷ g ∷ [])
 unfolding naturals
-seven a b c d e f g = rw (← and-true (isNatural g))
+seven a b c d e f g = rw (and-true (isNatural g))
 
 -- ---- a number that fits is the slot's
 

@@ -9,9 +9,9 @@ use lib.Dec.{eqb}
 use borrow.Author.Tests.{lt-ltb, ltb-true}
 use Rattle.types.specs.declared.Fraction.{Fraction}
 use Rattle.parser.specs.Reading.{got, Says}
-use Rattle.parser.specs.Digits.{fraction, runAt, numberFrom, atTheEnd}
+use Rattle.parser.specs.Digits.{runAs, fractionOf, fraction, runAt, numberFrom, atTheEnd}
 use Rattle.parser.proofs.Fields.{DigitAt, OtherAt}
-use Rattle.parser.proofs.Runs.{run-step, run-other, run-end, end-is, end-is-not}
+use Rattle.parser.proofs.Runs.{run-step, run-other, run-end, end-is, end-is-not, any-open}
 use Rattle.looks.specs.Digits.{twoDigits}
 use Rattle.looks.proofs.Two.{two-is, two-some}
 
@@ -39,14 +39,14 @@ module _ (s : List ℕ) (at : ℕ) where
         run-step s at d0 ∙ ap (_∷_ (getD s at 0)) (run-step s (at + 1) d1 ∙ ap (_∷_ (getD s (at + 1) 0)) (rw p (run-step s (at + 2) d2 ∙ ap (_∷_ (getD s (at + 2) 0)) (rw q z))))
 
     says : (m : Bool) → runAt s (at + 3) ≡ [] → atTheEnd s at ≡ m → Says fraction s at (got (milliseconds (tenths * 100 + rest)) (at + 3)) m
-    unfolding fraction numberFrom
+    unfolding runAs numberFrom
     says m z em =
         let t = two-is 48 (getD s at 0) 0 9 e in
         let u = two-is (getD s (at + 1) 0) (getD s (at + 2) 0) 0 99 f in
         let r = run-of-three z in
         let a = two-some 48 (getD s at 0) 0 9 t in
         let b = two-some (getD s (at + 1) 0) (getD s (at + 2) 0) 0 99 u in
-        record { found = rw (r, a, b) (ap (λ (n : ℕ). got (record { nanosecond = n; digits = 3 }) (at + 3)) (omega arith)); more = sym em }
+        record { found = rw (r, a, b) (ap (λ (n : ℕ). got (record { nanosecond = n; digits = 3 }) (at + 3)) (omega arith)); more = sym (any-open fractionOf 1 s at ∙ em) }
 
     -- where the input ends, and where another byte stands
     pub three-end : length s ≤ at + 3 → Says fraction s at (got (milliseconds (tenths * 100 + rest)) (at + 3)) true

@@ -5,9 +5,9 @@ use mathlib.Core.Bool.{Bool, true, false}
 use mathlib.Core.Path.{_≡_, refl, _∙_}
 use native.Mathlib.Omega.{arith}
 use lib.ListN.{length, getD}
-use lib.Dec.{ltb, leb, eqb}
+use lib.Dec.{ltb, eqb}
 use Rattle.parser.specs.Reading.{Found, no, got, stop, Reader, lit, seq, then, opt, lack, alt, orElse, verify, keep, must, keepOrStop, map, mapFound, give, pick, and, within}
-use Rattle.parser.specs.Digits.{digit, digitsFrom, field, number, runAt, ofRun, runAs, fractionOf, fraction}
+use Rattle.parser.specs.Digits.{digit, digitsFrom, field, number, runAt, ofRun, runAs}
 use Rattle.parser.proofs.Places.{no≢got, stop≢got, got-place}
 
 abbrev pub Ahead : {A : Type 0} → Reader A → Type 0
@@ -34,25 +34,17 @@ pub field-ahead : (n lo hi : ℕ) → Ahead (field n lo hi)
 unfolding field
 field-ahead n lo hi s at a m e = digits-ahead lo hi n 0 s at a m e
 
-pub run-ahead : {A : Type 0} (f : List ℕ → A) (most r : ℕ) → Ahead (runAs f most r)
+pub run-ahead : {A : Type 0} (f : List ℕ → A) (may : ℕ → Bool) (r : ℕ) → Ahead (runAs f may r)
 unfolding runAs
-run-ahead f most r s at a n e = go (runAt s at) e
+run-ahead f may r s at a n e = go (runAt s at) e
   where
     fits : (d : List ℕ) (t : Bool) → pick t (got (f d) (at + length d)) (stop r) ≡ got a n → at ≤ n
     fits d true e = omega (arith, got-place e)
     fits d false e = absurd (stop≢got e)
 
-    go : (d : List ℕ) → ofRun d no (pick (leb (number d) most) (got (f d) (at + length d)) (stop r)) ≡ got a n → at ≤ n
+    go : (d : List ℕ) → ofRun d no (pick (may (number d)) (got (f d) (at + length d)) (stop r)) ≡ got a n → at ≤ n
     go [] e = absurd (no≢got e)
-    go (b ∷ d) e = fits (b ∷ d) (leb (number (b ∷ d)) most) e
-
-pub fraction-ahead : Ahead fraction
-unfolding fraction
-fraction-ahead s at a n e = go (runAt s at) e
-  where
-    go : (d : List ℕ) → ofRun d no (got (fractionOf d) (at + length d)) ≡ got a n → at ≤ n
-    go [] e = absurd (no≢got e)
-    go (b ∷ d) e = omega (arith, got-place e)
+    go (b ∷ d) e = fits (b ∷ d) (may (number (b ∷ d))) e
 
 pub give-ahead : {A : Type 0} (v : A) → Ahead (give v)
 unfolding give

@@ -27,6 +27,10 @@ pub and-first : (a b : Bool) → and a b ≡ true → a ≡ true
 and-first true b e = refl
 and-first false b e = e
 
+pub and-true : (a : Bool) → and a true ≡ a
+and-true true = refl
+and-true false = refl
+
 pub and-second : (a : Bool) {b : Bool} → and a b ≡ true → b ≡ true
 and-second true e = e
 and-second false e = absurd (true≢false (sym e))

@@ -9,16 +9,16 @@ use lib.ListN.{length}
 use lib.Dec.{ltb, leb}
 use borrow.Author.Tests.{leb-true, le-leb, eqb-true}
 use Rattle.parser.specs.Reading.{Reader, lit, seq, opt, alt, map, and}
-use Rattle.parser.specs.Digits.{isDigit, field, lowest, highest, reach, number, limit, run, fraction}
+use Rattle.parser.specs.Digits.{isDigit, field, lowest, highest, reach, number, any, atMost, limit, run, fractionOf, fraction}
 use Rattle.parser.specs.Fields.{signed, either, precededBy}
 use Rattle.parser.proofs.Fields.{true≢false, and-first, and-second}
-use Rattle.parser.proofs.Stable.{lit-stable, field-stable, fraction-stable}
-use Rattle.parser.proofs.Places.{Foreign, lit-bounded, field-bounded, fraction-bounded, lit-fails, field-fails, run-fails, fraction-fails, seq-fails, lit-foreign, fraction-foreign, field-foreign}
-use Rattle.parser.proofs.Ahead.{lit-ahead, field-ahead, fraction-ahead}
+use Rattle.parser.proofs.Stable.{lit-stable, field-stable, any-growing, most-growing}
+use Rattle.parser.proofs.Places.{Foreign, lit-bounded, field-bounded, lit-fails, field-fails, run-fails, seq-fails, lit-foreign, field-foreign}
+use Rattle.parser.proofs.Ahead.{lit-ahead, field-ahead}
 use Rattle.parser.proofs.Steady.{opt-steady, run-steady}
 use Rattle.parser.proofs.Hopeful.{Ends, AnyByte, Anything, hopeful-or, Starts, Keeps, AtEnd, definite-keeps, at-end-definite, starts-weaken, left-out-starts}
 use Rattle.parser.proofs.Leaves.{From, Narrows, lit-starts, lit-at-end, lit-hopeful, map-at-end, alt-at-end, field-hopeful-in, field-starts, field-definite}
-use Rattle.parser.proofs.RunLeaves.{fraction-eager, fraction-hopeful, fraction-starts, run-eager, run-then-starts, run-then-ends}
+use Rattle.parser.proofs.RunLeaves.{fraction-hopeful, fraction-starts, run-eager, run-then-starts, run-then-ends}
 use Rattle.parser.proofs.General.{lit-eager, seq-eager, field-eager}
 use Rattle.parser.proofs.Lawful.{most, In, byte, member, Outside, told-apart, outside-digit, outside-other, seq-lawful, Item, ItemOr, forget, map-item, alt-item, then-item}
 
@@ -139,18 +139,18 @@ field-keeps n lo hi = definite-keeps (In isDigit) (field n lo hi) (field-stable 
 
 pub fraction-item : {l : List ℕ} → Item l isDigit 1 1 Anything fraction
 fraction-item {l} = record {
-  lawful = record { steady = record { stable = fraction-stable; bounded = fraction-bounded; ahead = fraction-ahead; foreign = fraction-foreign (Outside l) (outside-digit l) }; hopeful = hopeful-or fraction-hopeful };
-  fails = fraction-fails;
-  eager = fraction-eager;
+  lawful = record { steady = run-steady fractionOf any-growing 1 (outside-digit l); hopeful = hopeful-or fraction-hopeful };
+  fails = run-fails fractionOf any 1;
+  eager = run-eager fractionOf any-growing 1;
   starts = fraction-starts;
 }
 
 -- a run and what must follow it, which starts with the byte c
 pub run-item : {B : Type 0} {l : List ℕ} (c : ℕ) {k n : ℕ} {F : B → Type 0} {q : ℕ → Reader B} → isDigit c ≡ false → ((v : ℕ) → Item l (byte c) k n F (q v)) → Item l isDigit (1 + k) (most (1 + k) n) F (seq run q)
 run-item {l = l} c {k = k} {F = F} {q = q} d hq = record {
-  lawful = seq-lawful (run-steady number limit 2 (outside-digit l)) (run-then-ends (In (byte c)) q other begun) (λ v. hq v .lawful);
-  fails = seq-fails run q (run-fails number limit 2);
-  eager = seq-eager run q (run-eager number limit 2);
+  lawful = seq-lawful (run-steady number (most-growing limit) 2 (outside-digit l)) (run-then-ends (In (byte c)) q other begun) (λ v. hq v .lawful);
+  fails = seq-fails run q (run-fails number (atMost limit) 2);
+  eager = seq-eager run q (run-eager number (most-growing limit) 2);
   starts = run-then-starts (In (byte c)) q other begun;
 }
   where

@@ -10,7 +10,7 @@ use lib.Seq.{getD-append-seam, drop-append-le}
 use lib.Dec.{ltb, leb, eqb}
 use borrow.Author.Tests.{ltb-true, ltb-false, lt-ltb, le-ltb}
 use Rattle.parser.specs.Reading.{Found, no, got, stop, Reader, lit, seq, then, opt, lack, alt, orElse, verify, keep, must, map, mapFound, give, pick, and}
-use Rattle.parser.specs.Digits.{isDigit, digitsFrom, field, digits, number, runAt, ofRun, runAs, fractionOf, fraction}
+use Rattle.parser.specs.Digits.{isDigit, digitsFrom, field, digits, number, runAt, ofRun, runAs}
 use Rattle.parser.proofs.Fields.{digitsFrom-end}
 use Rattle.parser.proofs.Runs.{run-end, digits-short}
 
@@ -119,25 +119,17 @@ field-bounded n lo hi s at le a m e = digits-bounded lo hi n 0 s at le a m e
 run-short : (s : List ℕ) (at : ℕ) → at ≤ length s → at + length (runAt s at) ≤ length s
 run-short s at le = omega (arith, digits-short (drop at s), length-drop at s)
 
-pub run-bounded : {A : Type 0} (f : List ℕ → A) (most r : ℕ) → Bounded (runAs f most r)
+pub run-bounded : {A : Type 0} (f : List ℕ → A) (may : ℕ → Bool) (r : ℕ) → Bounded (runAs f may r)
 unfolding runAs
-run-bounded f most r s at le a n e = go (runAt s at) (run-short s at le) e
+run-bounded f may r s at le a n e = go (runAt s at) (run-short s at le) e
   where
     fits : (d : List ℕ) → at + length d ≤ length s → (t : Bool) → pick t (got (f d) (at + length d)) (stop r) ≡ got a n → n ≤ length s
     fits d h true e = omega (arith, got-place e)
     fits d h false e = absurd (stop≢got e)
 
-    go : (d : List ℕ) → at + length d ≤ length s → ofRun d no (pick (leb (number d) most) (got (f d) (at + length d)) (stop r)) ≡ got a n → n ≤ length s
+    go : (d : List ℕ) → at + length d ≤ length s → ofRun d no (pick (may (number d)) (got (f d) (at + length d)) (stop r)) ≡ got a n → n ≤ length s
     go [] h e = absurd (no≢got e)
-    go (b ∷ d) h e = fits (b ∷ d) h (leb (number (b ∷ d)) most) e
-
-pub fraction-bounded : Bounded fraction
-unfolding fraction
-fraction-bounded s at le a n e = go (runAt s at) (run-short s at le) e
-  where
-    go : (d : List ℕ) → at + length d ≤ length s → ofRun d no (got (fractionOf d) (at + length d)) ≡ got a n → n ≤ length s
-    go [] h e = absurd (no≢got e)
-    go (b ∷ d) h e = omega (arith, got-place e)
+    go (b ∷ d) h e = fits (b ∷ d) h (may (number (b ∷ d))) e
 
 -- ---- past the end every reader fails alike, and an optional item takes nothing
 
@@ -156,13 +148,9 @@ pub field-fails : (n lo hi : ℕ) → 0 < n → Fails (field n lo hi)
 unfolding field
 field-fails n lo hi pos s at h = digitsFrom-end lo hi n 0 s at pos (le-ltb at (length s) h)
 
-pub run-fails : {A : Type 0} (f : List ℕ → A) (most r : ℕ) → Fails (runAs f most r)
+pub run-fails : {A : Type 0} (f : List ℕ → A) (may : ℕ → Bool) (r : ℕ) → Fails (runAs f may r)
 unfolding runAs
-run-fails f most r s at h = rw (run-end s at h)
-
-pub fraction-fails : Fails fraction
-unfolding fraction
-fraction-fails s at h = rw (run-end s at h)
+run-fails f may r s at h = rw (run-end s at h)
 
 pub seq-fails : {A B : Type 0} (p : Reader A) (q : A → Reader B) → Fails p → Fails (seq p q)
 unfolding seq
@@ -258,13 +246,9 @@ digits-foreign (b ∷ l) c y e = rw (digits-foreign l c y e)
 run-foreign-at : (s : List ℕ) (c : ℕ) (y : List ℕ) (at : ℕ) → isDigit c ≡ false → at ≤ length s → runAt (s ++ c ∷ y) at ≡ runAt s at
 run-foreign-at s c y at e le = rw (drop-append-le at s (c ∷ y) le) (digits-foreign (drop at s) c y e)
 
-pub run-foreign : {A : Type 0} (f : List ℕ → A) (most r : ℕ) (X : ℕ → Type 0) → ((c : ℕ) → X c → isDigit c ≡ false) → Foreign X (runAs f most r)
+pub run-foreign : {A : Type 0} (f : List ℕ → A) (may : ℕ → Bool) (r : ℕ) (X : ℕ → Type 0) → ((c : ℕ) → X c → isDigit c ≡ false) → Foreign X (runAs f may r)
 unfolding runAs
-run-foreign f most r X k s c y at hx le = rw (run-foreign-at s c y at (k c hx) le)
-
-pub fraction-foreign : (X : ℕ → Type 0) → ((c : ℕ) → X c → isDigit c ≡ false) → Foreign X fraction
-unfolding fraction
-fraction-foreign X k s c y at hx le = rw (run-foreign-at s c y at (k c hx) le)
+run-foreign f may r X k s c y at hx le = rw (run-foreign-at s c y at (k c hx) le)
 
 digitsFrom-foreign : (lo hi n v : ℕ) (s : List ℕ) (c : ℕ) (y : List ℕ) (at : ℕ) → isDigit c ≡ false → at ≤ length s → digitsFrom lo hi n v (s ++ c ∷ y) at ≡ digitsFrom lo hi n v s at
 unfolding digitsFrom

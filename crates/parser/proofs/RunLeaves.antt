@@ -8,11 +8,12 @@ use native.Mathlib.Omega.{arith}
 use lib.ListN.{length, drop, length-append, length-drop}
 use lib.Seq.{drop-append-le, drop-length}
 use lib.Dec.{ltb, leb}
-use borrow.Author.Tests.{ltb-false, le-ltb, le-leb, not-true}
+use borrow.Author.Tests.{ltb-false, le-ltb, not-true}
 use Rattle.parser.specs.Reading.{no, got, stop, Reader, seq, pick}
-use Rattle.parser.specs.Digits.{isDigit, digits, number, numberFrom, runAt, ofRun, atTheEnd, runAs, limit, run, fractionOf, fraction}
+use Rattle.parser.specs.Digits.{isDigit, digits, number, numberFrom, runAt, ofRun, atTheEnd, atMost, runAs, limit, run, fractionOf, fraction}
 use Rattle.parser.proofs.Fields.{and-first, and-second}
 use Rattle.parser.proofs.Runs.{run-end, digits-short}
+use Rattle.parser.proofs.Stable.{Growing}
 use Rattle.parser.proofs.Places.{run-foreign}
 use Rattle.parser.proofs.Hopeful.{Ends, AnyByte, Anything, Hopeful, Starts, Keeps, foreign-keeps, ends-after, ends-then-starts, ends-weaken}
 use Rattle.parser.proofs.Leaves.{DigitByte}
@@ -41,7 +42,7 @@ of-run (c ∷ d) a b h = refl
 
 -- a zero more is read by a fraction that stands open
 fraction-ends : (s : List ℕ) (at : ℕ) → at ≤ length s → atTheEnd s at ≡ true → Ends 1 DigitByte Anything fraction s at
-unfolding fraction
+unfolding runAs
 fraction-ends s at le h =
     let e = zero-more s at le h in
     let size : at + length (drop at s ++ 48 ∷ []) ≡ length (s ++ 48 ∷ []) = omega (arith, length-append (drop at s) (48 ∷ []), length-drop at s, length-append s (48 ∷ [])) in
@@ -58,20 +59,16 @@ fraction-ends s at le h =
 end-open : (s : List ℕ) (at : ℕ) → length s ≤ at → atTheEnd s at ≡ true
 end-open s at h = rw (run-end s at h, le-ltb (at + 0) (length s) (omega arith))
 
-pub fraction-eager : Eager fraction
-unfolding fraction
-fraction-eager s at h = end-open s at h
+pub run-eager : {A : Type 0} (f : List ℕ → A) {may : ℕ → Bool} → Growing may → (r : ℕ) → Eager (runAs f may r)
+unfolding runAs numberFrom
+run-eager f g r s at h = rw (end-open s at h, run-end s at h) (g .none)
 
 pub fraction-hopeful : Hopeful 1 Anything fraction
-unfolding fraction
-fraction-hopeful s at le h = ends-weaken 1 AnyByte Anything (omega arith) (λ c x. tt) (λ a f. f) (fraction-ends s at le h)
+unfolding runAs
+fraction-hopeful s at le h = ends-weaken 1 AnyByte Anything (omega arith) (λ c x. tt) (λ a f. f) (fraction-ends s at le (and-first (atTheEnd s at) true h))
 
 pub fraction-starts : Starts 1 DigitByte Anything fraction
 fraction-starts s = fraction-ends s (length s) (omega arith) (end-open s (length s) (omega arith))
-
-pub run-eager : {A : Type 0} (f : List ℕ → A) (most r : ℕ) → Eager (runAs f most r)
-unfolding runAs numberFrom
-run-eager f most r s at h = rw (end-open s at h, run-end s at h) (le-leb 0 most (omega arith))
 
 run-starts : Starts 1 DigitByte Anything run
 unfolding runAs numberFrom
@@ -91,7 +88,7 @@ run-open s at le h = go (runAt s at) (run-reaches s at le (and-first (atTheEnd s
 -- a run that stands open ends with what follows it, a byte that is no digit first; a zero is wanted where it has no digit yet
 module _ {B : Type 0} {k : ℕ} {F : B → Type 0} (X : ℕ → Type 0) (q : ℕ → Reader B) (nd : (c : ℕ) → X c → isDigit c ≡ false) (sq : (v : ℕ) → Starts k X F (q v)) where
   keeps : Keeps X run
-  keeps = foreign-keeps X run (run-foreign number limit 2 X nd)
+  keeps = foreign-keeps X run (run-foreign number (atMost limit) 2 X nd)
 
   pub run-then-starts : Starts (1 + k) DigitByte F (seq run q)
   run-then-starts s = ends-then-starts 1 k X F run q (omega arith) keeps (λ v _. sq v) (run-starts s)

@@ -9,8 +9,8 @@ use lib.ListN.{length, getD, replicate, drop-of-length-le}
 use lib.Seq.{drop-cons}
 use borrow.Author.Tests.{ltb-true, lt-ltb, le-ltb}
 use Rattle.parser.specs.Reading.{pick}
-use Rattle.parser.specs.Digits.{isDigit, digits, numberFrom, runAt, atTheEnd}
-use Rattle.parser.proofs.Fields.{DigitAt, OtherAt}
+use Rattle.parser.specs.Digits.{isDigit, digits, numberFrom, runAt, atTheEnd, any, runAs}
+use Rattle.parser.proofs.Fields.{DigitAt, OtherAt, and-true}
 
 -- digits and nothing else, as a run is
 pub data AllDigits : List ℕ → Type 0 where
@@ -89,3 +89,8 @@ end-is s at next e h = rw (le-ltb (at + length (runAt s at)) (length s) (omega a
 
 pub end-is-not : (s : List ℕ) (at next : ℕ) → next ≡ at + length (runAt s at) → next < length s → atTheEnd s at ≡ false
 end-is-not s at next e h = rw (lt-ltb (at + length (runAt s at)) (length s) (omega arith))
+
+-- a run of any number is open at the end of the input alone
+pub any-open : {A : Type 0} (f : List ℕ → A) (r : ℕ) (s : List ℕ) (at : ℕ) → runAs f any r .more s at ≡ atTheEnd s at
+unfolding runAs
+any-open f r s at = and-true (atTheEnd s at)

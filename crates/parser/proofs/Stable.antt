@@ -6,10 +6,10 @@ use mathlib.Core.Path.{_≡_, refl, sym, _∙_}
 use lib.ListN.{length, getD, drop, length-append, length-drop, List·getD-append}
 use lib.Seq.{drop-append-le}
 use lib.Dec.{ltb, leb}
-use borrow.Author.Tests.{ltb-true, leb-true, leb-false, lt-ltb, lt-leb, not-false}
+use borrow.Author.Tests.{ltb-true, leb-true, leb-false, lt-ltb, le-leb, lt-leb, not-false}
 use native.Mathlib.Omega.{arith}
 use Rattle.parser.specs.Reading.{Found, no, got, stop, Reader, lit, seq, after, opt, alt, failed, verify, must, map, give, pick, or, and}
-use Rattle.parser.specs.Digits.{isDigit, digitsFrom, digitsMore, field, digits, number, numberFrom, runAt, ofRun, atTheEnd, runAs, fraction}
+use Rattle.parser.specs.Digits.{isDigit, digitsFrom, digitsMore, field, digits, number, numberFrom, runAt, ofRun, atTheEnd, any, atMost, runAs}
 use Rattle.parser.proofs.Runs.{run-end, digits-inside, digits-more, number-append, number-grows}
 use Rattle.parser.proofs.Fields.{true≢false, and-right, DigitAt, OtherAt, digitsFrom-suc, digitsMore-suc, digitsFrom-other, digitsMore-other, digitsFrom-end, digitsMore-end, out-of-reach, out-no, out-settled}
 
@@ -131,10 +131,6 @@ run-stays s x at h =
     let e : runAt (s ++ x) at ≡ runAt s at = rw (drop-append-le at s x (omega arith)) (digits-inside (drop at s) x (rw (length-drop at s) (omega arith))) in
     (e, rw (e, lt-ltb (at + length (runAt s at)) (length (s ++ x)) (omega (arith, length-append s x))))
 
-pub fraction-stable : Stable fraction
-unfolding fraction
-fraction-stable s x at h = let e = run-stays s x at h in record { reads = rw (e .0); more = e .1 }
-
 -- and a run at the end only grows
 run-grows : (s x : List ℕ) (at : ℕ) → number (runAt s at) ≤ number (runAt (s ++ x) at)
 unfolding numberFrom
@@ -146,19 +142,32 @@ run-grows s x at = go (leb at (length s)) refl
         rw (drop-append-le at s x (leb-true at (length s) e), m .1, number-append (digits (drop at s)) (m .0) 0) (number-grows (m .0) (number (digits (drop at s))))
     go false e = rw (run-end s at (omega (arith, leb-false at (length s) e))) (number-grows (runAt (s ++ x) at) 0)
 
--- a run's number that is past its limit stays there
-pub run-stable : {A : Type 0} (f : List ℕ → A) (most r : ℕ) → Stable (runAs f most r)
-unfolding runAs numberFrom
-run-stable f most r s x at h = go (atTheEnd s at) refl h
-  where
-    still : (d d′ : List ℕ) → number d ≤ number d′ → leb (number d) most ≡ false → (leb (number d′) most ≡ false) × (ofRun d′ no (pick (leb (number d′) most) (got (f d′) (at + length d′)) (stop r)) ≡ ofRun d no (pick (leb (number d) most) (got (f d) (at + length d)) (stop r)))
-    still [] d′ g big = absurd (let h = leb-false 0 most big in omega arith)
-    still (b ∷ d) [] g big = absurd (let h = leb-false (number (b ∷ d)) most big in let z : number [] ≡ 0 = refl in omega arith)
-    still (b ∷ d) (b′ ∷ d′) g big = let big′ = lt-leb (number (b′ ∷ d′)) most (omega (arith, leb-false (number (b ∷ d)) most big)) in (big′, rw (big, big′))
+-- a number that a run may not have it may not have with more digits either, and with none it has 0, which it may have
+pub record Growing (may : ℕ → Bool) : Type 0 where
+  pub none : may 0 ≡ true
+  pub stays : (m n : ℕ) → m ≤ n → may m ≡ false → may n ≡ false
 
-    past : leb (number (runAt s at)) most ≡ false → Same (runAs f most r) s x at
+pub any-growing : Growing any
+any-growing = record { none = refl; stays = λ m n h e. e }
+
+pub most-growing : (most : ℕ) → Growing (atMost most)
+most-growing most = record { none = le-leb 0 most (omega arith); stays = λ m n h e. lt-leb n most (omega (arith, leb-false m most e)) }
+
+pub run-stable : {A : Type 0} (f : List ℕ → A) {may : ℕ → Bool} (g : Growing may) (r : ℕ) → Stable (runAs f may r)
+unfolding runAs numberFrom
+run-stable f {may} g r s x at h = go (atTheEnd s at) refl h
+  where
+    none : may 0 ≡ false → ⊥
+    none e = true≢false (sym (g .none) ∙ e)
+
+    still : (d d′ : List ℕ) → number d ≤ number d′ → may (number d) ≡ false → (may (number d′) ≡ false) × (ofRun d′ no (pick (may (number d′)) (got (f d′) (at + length d′)) (stop r)) ≡ ofRun d no (pick (may (number d)) (got (f d) (at + length d)) (stop r)))
+    still [] d′ l big = absurd (none big)
+    still (b ∷ d) [] l big = absurd (none (g .stays (number (b ∷ d)) 0 l big))
+    still (b ∷ d) (b′ ∷ d′) l big = let big′ = g .stays (number (b ∷ d)) (number (b′ ∷ d′)) l big in (big′, rw (big, big′))
+
+    past : may (number (runAt s at)) ≡ false → Same (runAs f may r) s x at
     past big = let e = still (runAt s at) (runAt (s ++ x) at) (run-grows s x at) big in record { reads = e .1; more = and-right (atTheEnd (s ++ x) at) (e .0) }
 
-    go : (t : Bool) → atTheEnd s at ≡ t → and t (leb (number (runAt s at)) most) ≡ false → Same (runAs f most r) s x at
+    go : (t : Bool) → atTheEnd s at ≡ t → and t (may (number (runAt s at))) ≡ false → Same (runAs f may r) s x at
     go true e h = past h
     go false e h = let k = run-stays s x at e in record { reads = rw (k .0); more = rw (k .1) }

@@ -7,7 +7,7 @@ use mathlib.Core.Path.{_≡_, refl, _∙_}
 use lib.ListN.{length}
 use Rattle.parser.specs.Reading.{Found, no, got, stop, Reader, seq, opt, alt, verify, must, keepOrStop, map, give, pick}
 use Rattle.parser.specs.Digits.{isDigit, runAs}
-use Rattle.parser.proofs.Stable.{Stable, give-stable, verify-stable, must-stable, map-stable, opt-stable, seq-stable, alt-stable, run-stable}
+use Rattle.parser.proofs.Stable.{Stable, give-stable, verify-stable, must-stable, map-stable, opt-stable, seq-stable, alt-stable, Growing, run-stable}
 use Rattle.parser.proofs.Places.{no≢got, stop≢got, Bounded, give-bounded, seq-bounded, opt-bounded, alt-bounded, verify-bounded, map-bounded, run-bounded}
 use Rattle.parser.proofs.Ahead.{Ahead, give-ahead, map-ahead, verify-ahead, must-ahead, opt-ahead, alt-ahead, seq-ahead, run-ahead}
 use Rattle.parser.proofs.Places.{Foreign, give-foreign, seq-foreign, opt-foreign, alt-foreign, verify-foreign, map-foreign, run-foreign}
@@ -66,5 +66,5 @@ module _ {X : ℕ → Type 0} where
     foreign = seq-foreign X p q (hp .bounded) (hp .foreign) (λ a. hq a .foreign);
   }
 
-  pub run-steady : {A : Type 0} (f : List ℕ → A) (most r : ℕ) → ((c : ℕ) → X c → isDigit c ≡ false) → Steady X (runAs f most r)
-  run-steady f most r h = record { stable = run-stable f most r; bounded = run-bounded f most r; ahead = run-ahead f most r; foreign = run-foreign f most r X h }
+  pub run-steady : {A : Type 0} (f : List ℕ → A) {may : ℕ → Bool} → Growing may → (r : ℕ) → ((c : ℕ) → X c → isDigit c ≡ false) → Steady X (runAs f may r)
+  run-steady f {may} g r h = record { stable = run-stable f g r; bounded = run-bounded f may r; ahead = run-ahead f may r; foreign = run-foreign f may r X h }

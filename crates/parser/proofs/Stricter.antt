@@ -6,9 +6,8 @@ use mathlib.Core.Bool.{Bool, true, false}
 use mathlib.Core.Path.{_≡_, refl, sym, _∙_}
 use mathlib.Core.Logic.{_⊎_, inl, inr}
 use lib.ListN.{length}
-use lib.Dec.{leb}
 use Rattle.parser.specs.Reading.{Found, no, got, stop, Reader, seq, after, opt, lack, alt, failed, must, keepOrStop, map, mapFound, or, and, pick}
-use Rattle.parser.specs.Digits.{number, runAt, ofRun, runAs, fractionOf, fraction}
+use Rattle.parser.specs.Digits.{number, runAt, ofRun, atTheEnd, any, runAs}
 use Rattle.parser.proofs.Fields.{true≢false, and-first}
 use Rattle.parser.proofs.Places.{stop≢got}
 use Rattle.parser.proofs.Hopeful.{Ends, AnyByte, Hopeful, HopefulOr, Changes}
@@ -97,19 +96,19 @@ seq-stricter {A} {B} {p} {q} {f} {g} h k s at = record { reads = reads (q .reads
     more false em (got a n) ex (inl e) o = rw (← e, ex, k a s n .more o) (or-true (q .more s at))
     more false em (got a n) ex (inr (r, e)) o = absurd (stop≢got (sym e ∙ ex))
 
--- ---- a run whose number may not be above something reads as the fraction does, or stops the reading
+-- ---- a run that may have some numbers reads as one that may have any does, or stops the reading
 
-pub run-stricter : (most r : ℕ) → Stricter (runAs fractionOf most r) fraction
-unfolding runAs fraction
-run-stricter most r s at = record { reads = go (runAt s at); more = λ h. and-first _ _ h }
+pub run-stricter : {A : Type 0} (f : List ℕ → A) (may : ℕ → Bool) (r q : ℕ) → Stricter (runAs f may r) (runAs f any q)
+unfolding runAs
+run-stricter {A} f may r q s at = record { reads = go (runAt s at); more = λ h. rw (and-first (atTheEnd s at) _ h) }
   where
-    some : (d : List ℕ) (t : Bool) → SameOrStop (pick t (got (fractionOf d) (at + length d)) (stop r)) (got (fractionOf d) (at + length d))
+    some : (d : List ℕ) (t : Bool) → SameOrStop (pick t (got (f d) (at + length d)) (stop r)) (got (f d) (at + length d))
     some d true = inl refl
     some d false = inr (r, refl)
 
-    go : (d : List ℕ) → SameOrStop (ofRun d no (pick (leb (number d) most) (got (fractionOf d) (at + length d)) (stop r))) (ofRun d no (got (fractionOf d) (at + length d)))
+    go : (d : List ℕ) → SameOrStop (ofRun d no (pick (may (number d)) (got (f d) (at + length d)) (stop r))) (ofRun d no (got (f d) (at + length d)))
     go [] = inl refl
-    go (b ∷ d) = some (b ∷ d) (leb (number (b ∷ d)) most)
+    go (b ∷ d) = some (b ∷ d) (may (number (b ∷ d)))
 
 -- ---- hope
 

@@ -1,7 +1,7 @@
 -- Digits: fields of so many, runs of any number, and the fraction of a second.
 use Prim.Native.Nat.{ℕ, zero, suc, _+_, _*_, _-_}
 use mathlib.Core.List.{List, [], _∷_, _++_}
-use mathlib.Core.Bool.{Bool, false, not}
+use mathlib.Core.Bool.{Bool, true, false, not}
 use lib.ListN.{length, getD, take, drop, replicate}
 use lib.Dec.{ltb, leb}
 use Rattle.types.specs.declared.Fraction.{Fraction}
@@ -66,12 +66,19 @@ ofRun (b ∷ d) none some = some
 abbrev pub atTheEnd : List ℕ → ℕ → Bool
 atTheEnd s at = not (ltb (at + length (runAt s at)) (length s))
 
--- a digit run, one digit or more, with what its digits are read as; a number above the greatest that it may have ends all reading, by the number r
-unfoldable pub runAs : {A : Type 0} → (List ℕ → A) → ℕ → ℕ → Reader A
-runAs f most r = record {
+-- which numbers a run may have: any, or those up to a greatest one
+abbrev pub any : ℕ → Bool
+any n = true
+
+abbrev pub atMost : ℕ → ℕ → Bool
+atMost most n = leb n most
+
+-- a digit run, one digit or more, with what its digits are read as; a number that it may not have ends all reading, by the number r
+unfoldable pub runAs : {A : Type 0} → (List ℕ → A) → (ℕ → Bool) → ℕ → Reader A
+runAs f may r = record {
   reads = λ s at.
-      ofRun (runAt s at) no (pick (leb (number (runAt s at)) most) (got (f (runAt s at)) (at + length (runAt s at))) (stop r));
-  more = λ s at. and (atTheEnd s at) (leb (number (runAt s at)) most);
+      ofRun (runAt s at) no (pick (may (number (runAt s at))) (got (f (runAt s at)) (at + length (runAt s at))) (stop r));
+  more = λ s at. and (atTheEnd s at) (may (number (runAt s at)));
 }
 
 -- "a digit run above 4,294,967,295" is refusal 2
@@ -79,7 +86,7 @@ abbrev pub limit : ℕ
 limit = 4294967295
 
 abbrev pub run : Reader ℕ
-run = runAs number limit 2
+run = runAs number (atMost limit) 2
 
 -- "the first nine digits, padded with zeros on the right; further digits are read and dropped"
 abbrev pub nanoseconds : List ℕ → ℕ
@@ -92,9 +99,6 @@ upToNine n = pick (ltb 9 n) 9 n
 abbrev pub fractionOf : List ℕ → Fraction
 fractionOf d = record { nanosecond = nanoseconds d; digits = upToNine (length d) }
 
--- "one or more digits", as a fraction of a second
-unfoldable pub fraction : Reader Fraction
-fraction = record {
-  reads = λ s at. ofRun (runAt s at) no (got (fractionOf (runAt s at)) (at + length (runAt s at)));
-  more = atTheEnd;
-}
+-- "one or more digits", of any number, as a fraction of a second
+abbrev pub fraction : Reader Fraction
+fraction = runAs fractionOf any 1

@@ -2,14 +2,14 @@
 use Prim.Native.Nat.{ℕ, _+_, _*_, _-_, _<_, _≤_}
 use mathlib.Core.List.{List, [], _∷_}
 use mathlib.Core.Bool.{Bool, true, false, not}
-use mathlib.Core.Path.{_≡_, refl, sym, ap}
+use mathlib.Core.Path.{_≡_, refl, sym, ap, _∙_}
 use native.Mathlib.Omega.{arith}
 use lib.ListN.{length, getD}
 use lib.Dec.{ltb, leb, eqb}
 use borrow.Author.Tests.{ltb-true, ltb-false, leb-true, lt-ltb, le-ltb, le-leb, eqb-true, eq-eqb, ne-eqb, not-false, not-true}
 use Rattle.parser.specs.Reading.{Found, no, got, stop, lit, pick, and, Says}
 use Rattle.parser.specs.Digits.{isDigit, number, numberFrom, runAt, ofRun, limit, runAs, run}
-use Rattle.parser.proofs.Fields.{and-first, and-second, and-right, DigitAt, OtherAt, above-digits}
+use Rattle.parser.proofs.Fields.{and-first, and-true, and-second, and-right, DigitAt, OtherAt, above-digits}
 use Rattle.parser.proofs.Runs.{run-step, run-other, run-end}
 use Rattle.parser.proofs.Places.{no≢got, got-place, stop≢got}
 use Rattle.looks.specs.Digits.{twoNumber, twoDigits}
@@ -19,10 +19,6 @@ use Rattle.parts.specs.declared.Item.the-variants as item
 
 -- ---- a run that has a value ends inside the input, or open at its end
 
-and-true : (a : Bool) → and a true ≡ false → a ≡ false
-and-true true e = e
-and-true false e = e
-
 module _ (s : List ℕ) (at v n : ℕ) (e : run .reads s at ≡ got v n) where
   pub run-inside : run .more s at ≡ false → n < length s
   unfolding runAs
@@ -30,7 +26,7 @@ module _ (s : List ℕ) (at v n : ℕ) (e : run .reads s at ≡ got v n) where
     where
       go : (d : List ℕ) (t : Bool) → ofRun d no (pick t (got (number d) (at + length d)) (stop 2)) ≡ got v n → and (not (ltb (at + length d) (length s))) t ≡ false → n < length s
       go [] t e m = absurd (no≢got e)
-      go (b ∷ d) true e m = omega (arith, got-place e, ltb-true (at + length (b ∷ d)) (length s) (not-false _ (and-true _ m)))
+      go (b ∷ d) true e m = omega (arith, got-place e, ltb-true (at + length (b ∷ d)) (length s) (not-false _ (sym (and-true (not (ltb (at + length (b ∷ d)) (length s)))) ∙ m)))
       go (b ∷ d) false e m = absurd (stop≢got e)
 
   pub run-to-end : run .more s at ≡ true → length s ≤ n

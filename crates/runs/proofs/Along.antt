@@ -7,9 +7,9 @@ use native.Mathlib.Omega.{arith}
 use lib.ListN.{length, getD}
 use lib.Dec.{ltb, leb}
 use borrow.Author.Tests.{lt-ltb, le-ltb, le-leb, lt-leb}
-use Rattle.parser.specs.Reading.{Reader, Says, no, got, stop, and, pick}
-use Rattle.parser.specs.Digits.{numberFrom, number, runAt, ofRun, atTheEnd, runAs, nanoseconds, fractionOf}
-use Rattle.parser.proofs.Fields.{DigitAt, and-right}
+use Rattle.parser.specs.Reading.{Reader, Says, no, got, stop, pick}
+use Rattle.parser.specs.Digits.{numberFrom, number, runAt, ofRun, atTheEnd, atMost, runAs, nanoseconds, fractionOf}
+use Rattle.parser.proofs.Fields.{DigitAt, and-right, and-true}
 use Rattle.parser.proofs.Runs.{run-step, number-grows}
 use Rattle.runs.specs.Read.{foundRun, foundAs, fractionAs, runMore}
 
@@ -46,20 +46,16 @@ fraction-is at v next d e en = let size : next - at ≡ length d = omega arith i
 
 module _ {A : Type 0} (read : List ℕ → A) (most q : ℕ) (s : List ℕ) (at value next : ℕ) (g : Along s at value next) where
   -- it has ended at `next`, and its number is not past that
-  pub ended : (f : ℕ → ℕ → A) (more : Bool) → value ≤ most → runAt s next ≡ [] → atTheEnd s at ≡ more → ((d : List ℕ) → number d ≡ value → next ≡ at + length d → read d ≡ f value next) → Says (runAs read most q) s at (foundAs f q (foundRun (ltb at next) more value next)) (runMore (foundRun (ltb at next) more value next))
+  pub ended : (f : ℕ → ℕ → A) (more : Bool) → value ≤ most → runAt s next ≡ [] → atTheEnd s at ≡ more → ((d : List ℕ) → number d ≡ value → next ≡ at + length d → read d ≡ f value next) → Says (runAs read (atMost most) q) s at (foundAs f q (foundRun (ltb at next) more value next)) (runMore (foundRun (ltb at next) more value next))
   unfolding runAs numberFrom
   ended f more small e em is =
       let n : number (runAt s at) ≡ value = sym (g .number) ∙ rw e in
       let fits : leb (number (runAt s at)) most ≡ true = rw n (le-leb value most small) in
       let end : next ≡ at + length (runAt s at) = omega (arith, g .ends, ap length e) in
-      found-run-says f q (runAs read most q) s at (runAt s at) value next more (rw (fits, is (runAt s at) n end)) (rw (em, fits) (and-true more)) end
-    where
-      and-true : (t : Bool) → and t true ≡ t
-      and-true true = refl
-      and-true false = refl
+      found-run-says f q (runAs read (atMost most) q) s at (runAt s at) value next more (rw (fits, is (runAt s at) n end)) (rw (em, fits) (and-true more)) end
 
   -- its number is past that, whatever digits follow
-  pub past : DigitAt s next → most < value * 10 + (getD s next 0 - 48) → Says (runAs read most q) s at (stop q) false
+  pub past : DigitAt s next → most < value * 10 + (getD s next 0 - 48) → Says (runAs read (atMost most) q) s at (stop q) false
   unfolding runAs
   past d h =
       let g′ = along-step s at value next g d in

@@ -5,7 +5,7 @@ ghost use Prim.Native.Nat.{_+_, _-_, _^_, _<_};
 ghost use lib.Dec.{ltb};
 ghost use lib.ListN.{length};
 ghost use Rattle.parser.specs.Reading.{Says};
-ghost use Rattle.parser.specs.Digits.{run, runAs, upToNine, fractionOf, fraction, runAt};
+ghost use Rattle.parser.specs.Digits.{run, atMost, runAs, upToNine, fractionOf, fraction, runAt};
 ghost use Rattle.runs.specs.Read.{foundRun, runFound, fractionFound, runMore};
 use types::Fraction;
 
@@ -56,7 +56,7 @@ pub fn take_digits(s: &[u8], at: usize) -> Run
 
 // A fraction of zeros, of any length: one other digit is too big.
 pub fn take_zeros(s: &[u8], at: usize) -> Run
-    ensures { λ r. ⌜ Says (runAs fractionOf 0 1) (now (s .entry)) at (fractionFound at r) (runMore r) ⌝ }
+    ensures { λ r. ⌜ Says (runAs fractionOf (atMost 0) 1) (now (s .entry)) at (fractionFound at r) (runMore r) ⌝ }
 {
     let mut next = at;
     while next < s.len() {

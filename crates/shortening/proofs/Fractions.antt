@@ -11,13 +11,13 @@ use lib.Dec.{ltb, leb, eqb}
 use borrow.Author.Tests.{ltb-true, ltb-false, lt-ltb, lt-leb, leb-true, eqb-true, eqb-false, eq-eqb, ne-eqb, not-true}
 use Rattle.types.specs.declared.Fraction.{Fraction}
 use Rattle.parser.specs.Reading.{Found, no, got, stop, Reader, lit, seq, then, after, alt, orElse, failed, pick, or, and}
-use Rattle.parser.specs.Digits.{isDigit, digits, number, numberFrom, runAt, ofRun, atTheEnd, runAs, nanoseconds, fractionOf, fraction}
+use Rattle.parser.specs.Digits.{isDigit, digits, number, numberFrom, runAt, ofRun, atTheEnd, runAs, nanoseconds, fractionOf}
 use Rattle.parser.specs.Fields.{either}
 use Rattle.parser.proofs.Fields.{true≢false, and-first, and-second}
-use Rattle.parser.proofs.Places.{no≢got, stop≢got, got-place, Bounded, Foreign, seq-bounded, alt-bounded, lit-bounded, run-bounded, run-foreign, fraction-bounded, fraction-foreign}
+use Rattle.parser.proofs.Places.{no≢got, stop≢got, got-place, Bounded, Foreign, seq-bounded, alt-bounded, lit-bounded, run-bounded, run-foreign}
 use Rattle.shortening.specs.Points.{isPoint}
 use Rattle.shortening.proofs.Cuts.{Cut, whole, kept, Place, behind, Carried, Simulates}
-use Rattle.shortening.proofs.Local.{Local, lit-local, run-local, fraction-local, alt-local, seq-local}
+use Rattle.shortening.proofs.Local.{Local, lit-local, run-local, alt-local, seq-local}
 use Rattle.shortening.proofs.Spans.{Spans}
 use Rattle.shortening.proofs.Trims.{fractions, FractionCut, cut, allDigits, Normal, Trims, same-before, simulates-by}
 use Rattle.shortening.proofs.Fields.{point-no-digit}
@@ -44,19 +44,6 @@ nine-decide n r h some =
 -- with one digit for two behind them it is the same fraction
 same-fraction : (z : FractionCut) (x : List ℕ) → fractionOf (z .nine ++ (z .tenth ∷ z .next ∷ x)) ≡ fractionOf (z .nine ++ (z .one ∷ x))
 same-fraction z x = nine-decide (z .nine) (z .tenth ∷ z .next ∷ x) (z .size) (omega arith) ∙ sym (nine-decide (z .nine) (z .one ∷ x) (z .size) (omega arith))
-
-pub fraction-leaf : Leaf fraction
-unfolding fraction
-fraction-leaf = record {
-  value = λ d k. got (fractionOf d) k;
-  reads = λ s at. refl;
-  opens = λ s at o. o;
-  ends = λ d k a n e. sym (got-place e);
-  local = fraction-local;
-  bounded = fraction-bounded;
-  foreign = fraction-foreign (λ b. isPoint b ≡ true) point-no-digit;
-  same = λ z x m n e. record { place = m; found = rw (same-fraction z x); same = e };
-}
 
 -- ---- zeros: one digit stands for two
 
@@ -89,7 +76,7 @@ zero-append : (l d e : List ℕ) → allZero d ≡ allZero e → allZero (l ++ d
 zero-append [] d e h = h
 zero-append (b ∷ l) d e h = rw (zero-append l d e h)
 
-zero-joined : (z : FractionCut) (x : List ℕ) → leb (number (z .nine ++ (z .tenth ∷ z .next ∷ x))) 0 ≡ leb (number (z .nine ++ (z .one ∷ x))) 0
+pub zero-joined : (z : FractionCut) (x : List ℕ) → leb (number (z .nine ++ (z .tenth ∷ z .next ∷ x))) 0 ≡ leb (number (z .nine ++ (z .one ∷ x))) 0
 zero-joined z x =
     let two : allZero (z .tenth ∷ z .next ∷ x) ≡ allZero (z .one ∷ x) = rw (zero-digit (z .tenth) (z .first), zero-digit (z .next) (z .second), zero-digit (z .one) (z .either), z .zero) (and-assoc (eqb (z .tenth) 48) (eqb (z .next) 48)) in
     zero-number 0 (z .nine ++ (z .tenth ∷ z .next ∷ x)) ∙ zero-append (z .nine) (z .tenth ∷ z .next ∷ x) (z .one ∷ x) two ∙ sym (zero-number 0 (z .nine ++ (z .one ∷ x)))
@@ -98,21 +85,22 @@ zero-joined z x =
     and-assoc true u = refl
     and-assoc false u = refl
 
-pub zeros-leaf : (r : ℕ) → Leaf (runAs fractionOf 0 r)
+-- a fraction that may have any number, or one that one digit for two leaves it
+pub fraction-leaf : (may : ℕ → Bool) (r : ℕ) → ((z : FractionCut) (x : List ℕ) → may (number (z .nine ++ (z .tenth ∷ z .next ∷ x))) ≡ may (number (z .nine ++ (z .one ∷ x)))) → Leaf (runAs fractionOf may r)
 unfolding runAs
-zeros-leaf r = record {
+fraction-leaf may r joined = record {
   value = value;
   reads = λ s at. refl;
   opens = λ s at o. and-first (atTheEnd s at) _ o;
-  ends = λ d k a n. ends d k a n (leb (number d) 0);
-  local = run-local fractionOf 0 r;
-  bounded = run-bounded fractionOf 0 r;
-  foreign = run-foreign fractionOf 0 r (λ b. isPoint b ≡ true) point-no-digit;
-  same = λ z x m n e. rw (zero-joined z x, same-fraction z x) (same z m n e (fractionOf (z .nine ++ (z .one ∷ x))) (leb (number (z .nine ++ (z .one ∷ x))) 0));
+  ends = λ d k a n. ends d k a n (may (number d));
+  local = run-local fractionOf may r;
+  bounded = run-bounded fractionOf may r;
+  foreign = run-foreign fractionOf may r (λ b. isPoint b ≡ true) point-no-digit;
+  same = λ z x m n e. rw (joined z x, same-fraction z x) (same z m n e (fractionOf (z .nine ++ (z .one ∷ x))) (may (number (z .nine ++ (z .one ∷ x)))));
 }
   where
     value : List ℕ → ℕ → Found Fraction
-    value d k = pick (leb (number d) 0) (got (fractionOf d) k) (stop r)
+    value d k = pick (may (number d)) (got (fractionOf d) k) (stop r)
 
     ends : (d : List ℕ) (k : ℕ) (a : Fraction) (n : ℕ) (t : Bool) → pick t (got (fractionOf d) k) (stop r) ≡ got a n → n ≡ k
     ends d k a n true e = sym (got-place e)

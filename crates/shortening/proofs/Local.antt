@@ -9,7 +9,7 @@ use lib.ListN.{length, getD}
 use lib.Dec.{ltb, leb, eqb}
 use borrow.Author.Tests.{ltb-true, ltb-false, lt-ltb, le-ltb}
 use Rattle.parser.specs.Reading.{Found, no, got, stop, Reader, lit, seq, then, alt, orElse, pick, and}
-use Rattle.parser.specs.Digits.{isDigit, digitsFrom, field, number, runAt, ofRun, runAs, fractionOf, fraction}
+use Rattle.parser.specs.Digits.{isDigit, digitsFrom, field, number, runAt, ofRun, runAs}
 use Rattle.shortening.proofs.Cuts.{Cut, whole, kept, behind, Carried}
 
 -- what is found, so many places further on
@@ -51,25 +51,17 @@ pub field-local : (k lo hi : ℕ) → Local (field k lo hi)
 unfolding field
 field-local k lo hi b s n = digits-local lo hi k 0 b s n
 
-pub run-local : {A : Type 0} (f : List ℕ → A) (most r : ℕ) → Local (runAs f most r)
+pub run-local : {A : Type 0} (f : List ℕ → A) (may : ℕ → Bool) (r : ℕ) → Local (runAs f may r)
 unfolding runAs
-run-local f most r b s n = go (runAt s n)
+run-local f may r b s n = go (runAt s n)
   where
     fits : (d : List ℕ) (t : Bool) → pick t (got (f d) (suc n + length d)) (stop r) ≡ onward 1 (pick t (got (f d) (n + length d)) (stop r))
     fits d true = ap (got (f d)) (omega arith)
     fits d false = refl
 
-    go : (d : List ℕ) → ofRun d no (pick (leb (number d) most) (got (f d) (suc n + length d)) (stop r)) ≡ onward 1 (ofRun d no (pick (leb (number d) most) (got (f d) (n + length d)) (stop r)))
+    go : (d : List ℕ) → ofRun d no (pick (may (number d)) (got (f d) (suc n + length d)) (stop r)) ≡ onward 1 (ofRun d no (pick (may (number d)) (got (f d) (n + length d)) (stop r)))
     go [] = refl
-    go (c ∷ d) = fits (c ∷ d) (leb (number (c ∷ d)) most)
-
-pub fraction-local : Local fraction
-unfolding fraction
-fraction-local b s n = go (runAt s n)
-  where
-    go : (d : List ℕ) → ofRun d no (got (fractionOf d) (suc n + length d)) ≡ onward 1 (ofRun d no (got (fractionOf d) (n + length d)))
-    go [] = refl
-    go (c ∷ d) = ap (got (fractionOf (c ∷ d))) (omega arith)
+    go (c ∷ d) = fits (c ∷ d) (may (number (c ∷ d)))
 
 pub alt-local : {A : Type 0} (p q : Reader A) → Local p → Local q → Local (alt p q)
 unfolding alt

@@ -9,7 +9,7 @@ use lib.Seq.{drop-append-le, drop-append-seam, getD-drop}
 use lib.Dec.{ltb, leb}
 use borrow.Author.Tests.{ltb-true, ltb-false, leb-true, leb-false, not-true}
 use Rattle.parser.specs.Reading.{no, got, stop, lit, seq, map, pick, and}
-use Rattle.parser.specs.Digits.{isDigit, digits, number, numberFrom, lowest, runAt, ofRun, atTheEnd, limit, runAs, run}
+use Rattle.parser.specs.Digits.{isDigit, digits, number, numberFrom, lowest, runAt, ofRun, atTheEnd, atMost, limit, runAs, run}
 use Rattle.parser.proofs.Fields.{true≢false, and-first}
 use Rattle.parser.proofs.Runs.{digits-inside, number-grows}
 use Rattle.parser.proofs.Places.{no≢got, stop≢got, got-place, run-bounded}
@@ -64,10 +64,10 @@ module _ (z : ZeroCut) where
       go false = refl
 
   run-simulates : Simulates (cut zeros z) run
-  run-simulates = simulates-by (cut zeros z) run (run-local number limit 2) (λ n le. go n le (ltb n (length (z .before))) refl)
+  run-simulates = simulates-by (cut zeros z) run (run-local number (atMost limit) 2) (λ n le. go n le (ltb n (length (z .before))) refl)
     where
       go : (n : ℕ) → n ≤ length (z .before) → (t : Bool) → ltb n (length (z .before)) ≡ t → Carried (cut zeros z) (run .reads (whole (cut zeros z)) n) (run .reads (kept (cut zeros z)) n)
-      go n le true e = read-before (cut zeros z) run (run-bounded number limit 2) n le (run-reads-before (z .before) (z .starts) n (ltb-true n (length (z .before)) e))
+      go n le true e = read-before (cut zeros z) run (run-bounded number (atMost limit) 2) n le (run-reads-before (z .before) (z .starts) n (ltb-true n (length (z .before)) e))
       go n le false e = let here : n ≡ length (z .before) = omega (arith, ltb-false n (length (z .before)) e) in rw here run-at-cut
 
 -- ---- at most ten digits

@@ -12,7 +12,7 @@ use Rattle.types.specs.declared.Fraction.{Fraction}
 use Rattle.types.specs.declared.Reading.{Reading}
 use Rattle.types.specs.declared.Reading.the-variants.{Old, Standard}
 use Rattle.parser.specs.Reading.{Found, no, got, stop, Reader, seq, after, opt, lack, alt, orElse, failed, must, map, mapFound, or, and, pick}
-use Rattle.parser.specs.Digits.{field, reach, lowest, highest, number, runAt, ofRun, atTheEnd, runAs, fractionOf}
+use Rattle.parser.specs.Digits.{field, reach, lowest, highest, number, runAt, ofRun, atTheEnd, atMost, runAs, fractionOf}
 use Rattle.parser.specs.Fields.{minute, second, precededBy, orZero}
 use Rattle.parser.proofs.Fields.{true≢false, and-second}
 use Rattle.parser.proofs.Places.{stop≢got, Fails}
@@ -27,7 +27,7 @@ use Rattle.offset.proofs.Laws.{offset-unstopped}
 use Rattle.time.specs.declared.Clock.{Clock}
 use Rattle.time.specs.declared.Smallest.{Smallest}
 use Rattle.time.specs.declared.Smallest.the-variants.{Hour}
-use Rattle.time.specs.Rules.{orWhole, smallestOf, clockOf, timeOf, zeroIf, timeFraction, millisecond, secondMillisecond, minuteSecondMillisecond, behindHour, timeOffset, afterHour}
+use Rattle.time.specs.Rules.{orWhole, smallestOf, clockOf, timeOf, zeroIf, fractionIf, timeFraction, millisecond, secondMillisecond, minuteSecondMillisecond, behindHour, timeOffset, afterHour}
 use Rattle.time.proofs.Unmarked.{mark, zero-no-mark, no-fraction, minute-no-mark}
 
 -- ---- stricter than behind any other hour
@@ -37,7 +37,7 @@ zero-stricter p = must-stricter (λ v. eqb v 0) 1 p
 
 fraction-stricter : (u : Smallest) (mi se : ℕ) → Stricter (timeFraction u true mi se) (timeFraction u false mi se)
 unfolding timeFraction
-fraction-stricter u mi se = map-stricter _ (seq-stricter same-stricter (λ _. run-stricter 0 1))
+fraction-stricter u mi se = map-stricter _ (seq-stricter same-stricter (λ _. run-stricter fractionOf (atMost 0) 1 1))
 
 minute-stricter : (r : Reading) → Stricter (minuteSecondMillisecond r true) (minuteSecondMillisecond r false)
 unfolding minuteSecondMillisecond secondMillisecond millisecond
@@ -88,7 +88,7 @@ mark-fails : Fails mark
 mark-fails = either-mark {l = 44 ∷ 46 ∷ []} 44 46 refl refl .item .fails
 
 -- open digits are all 0 so far
-run-open : (s : List ℕ) (at r : ℕ) → runAs fractionOf 0 1 .more s at ≡ true → runAs fractionOf 0 1 .reads s at ≡ stop r → ⊥
+run-open : (s : List ℕ) (at r : ℕ) → fractionIf true .more s at ≡ true → fractionIf true .reads s at ≡ stop r → ⊥
 unfolding runAs
 run-open s at r h e = go (runAt s at) (and-second (atTheEnd s at) h) e
   where
@@ -100,16 +100,16 @@ fraction-open : (u : Smallest) (mi se : ℕ) (s : List ℕ) (at r : ℕ) → tim
 unfolding timeFraction map seq
 fraction-open u mi se s at r h e = go (mark .more s at) refl (mark .reads s at) refl h
   where
-    digits : (n : ℕ) (f : Found Fraction) → runAs fractionOf 0 1 .reads s n ≡ f → runAs fractionOf 0 1 .more s n ≡ true → mapFound (clockOf u mi se) f ≡ stop r → ⊥
+    digits : (n : ℕ) (f : Found Fraction) → fractionIf true .reads s n ≡ f → fractionIf true .more s n ≡ true → mapFound (clockOf u mi se) f ≡ stop r → ⊥
     digits n no ef h e = no≢stop e
     digits n (stop q) ef h e = run-open s n q h ef
     digits n (got a k) ef h e = stop≢got (sym e)
 
-    go : (m : Bool) → mark .more s at ≡ m → (f : Found Unit) → mark .reads s at ≡ f → or m (after f (λ _ n. runAs fractionOf 0 1 .more s n)) ≡ true → ⊥
+    go : (m : Bool) → mark .more s at ≡ m → (f : Found Unit) → mark .reads s at ≡ f → or m (after f (λ _ n. fractionIf true .more s n)) ≡ true → ⊥
     go true em f ef h = no≢stop (rw (mark-fails s at (mark-at-end s at em)) at e)
     go false em no ef h = true≢false (sym h)
     go false em (stop q) ef h = true≢false (sym h)
-    go false em (got x n) ef h = digits n (runAs fractionOf 0 1 .reads s n) refl h (rw ef at e)
+    go false em (got x n) ef h = digits n (fractionIf true .reads s n) refl h (rw ef at e)
 
 millisecond-valued : (u : Smallest) (mi se : ℕ) (s : List ℕ) (at : ℕ) → ((r : ℕ) → timeFraction u true mi se .reads s at ≡ stop r → ⊥) → Valued (millisecond u true mi se) s at
 unfolding millisecond

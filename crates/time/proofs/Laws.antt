@@ -19,6 +19,7 @@ use Rattle.parser.specs.Fields.{orZero}
 use Rattle.parser.proofs.Places.{Bounded, Fails, lit-fails, field-fails, must-fails, alt-fails, seq-skips, opt-skips}
 use Rattle.parser.proofs.Hopeful.{Anything, never-stops}
 use Rattle.parser.proofs.General.{Eager}
+use Rattle.parser.proofs.Stable.{most-growing}
 use Rattle.parser.proofs.Steady.{Steady, map-steady, must-steady, opt-steady, alt-steady, seq-steady, run-steady}
 use Rattle.parser.proofs.Stricter.{stricter-hopeful}
 use Rattle.parser.proofs.Lawful.{byte, Outside, outside-digit, lawful-begins, Tail, TailOr, tail-or, map-tail, seq-tail, Item, ItemOr, widen, map-item, alt-item, opt-tail, seq-item}
@@ -69,7 +70,7 @@ zero-steady hi h = seq-steady (opt-steady (lit-mark {l = bytes} 58 refl .item .l
 
 point-steady : (u : Smallest) (mi se : ℕ) → Steady (Outside bytes) (timeFraction u true mi se)
 unfolding timeFraction
-point-steady u mi se = map-steady _ (seq-steady (either-mark {l = bytes} 44 46 refl refl .item .lawful .steady) (λ _. run-steady fractionOf 0 1 (outside-digit bytes)))
+point-steady u mi se = map-steady _ (seq-steady (either-mark {l = bytes} 44 46 refl refl .item .lawful .steady) (λ _. run-steady fractionOf (most-growing 0) 1 (outside-digit bytes)))
 
 minute-steady : (r : Reading) → Steady (Outside bytes) (minuteSecondMillisecond r true)
 unfolding minuteSecondMillisecond secondMillisecond millisecond

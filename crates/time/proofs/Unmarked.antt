@@ -8,13 +8,12 @@ use lib.Dec.{ltb, eqb}
 use lib.ListN.{length, getD}
 use borrow.Author.Tests.{eqb-true}
 use Rattle.types.specs.declared.Reading.{Reading}
-use Rattle.parser.specs.Reading.{Found, no, got, stop, Reader, Says, lit, seq, after, opt, lack, alt, must, map, mapFound, or}
+use Rattle.parser.specs.Reading.{Found, no, got, stop, Reader, lit, seq, after, opt, lack, alt, must, map, mapFound, or}
 use Rattle.parser.specs.Digits.{isDigit, field, digitsMore}
-use Rattle.parser.specs.Fields.{minute, second, either, precededBy, orZero}
+use Rattle.parser.specs.Fields.{minute, second, either, precededBy}
 use Rattle.parser.proofs.Fields.{true≢false}
 use Rattle.parser.proofs.Places.{no≢got}
 use Rattle.parser.proofs.Unstopped.{no≢stop}
-use Rattle.time.specs.declared.Clock.{Clock}
 use Rattle.time.specs.declared.Smallest.{Smallest}
 use Rattle.time.specs.Rules.{zeroIf, orWhole, smallestOf, timeFraction, millisecond, secondMillisecond, minuteSecondMillisecond}
 

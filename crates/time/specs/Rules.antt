@@ -17,7 +17,7 @@ use Rattle.types.specs.declared.Time.{Time}
 use Rattle.types.specs.declared.TimeOffset.{TimeOffset}
 use Rattle.types.specs.declared.TimeOffset.the-variants.{Absent, Given}
 use Rattle.parser.specs.Reading.{Reader, seq, opt, alt, must, map, pick}
-use Rattle.parser.specs.Digits.{field, runAs, fractionOf, fraction}
+use Rattle.parser.specs.Digits.{field, any, atMost, runAs, fractionOf}
 use Rattle.parser.specs.Fields.{hour, minute, second, either, precededBy, orZero}
 use Rattle.offset.specs.Rules.{offset}
 use Rattle.time.specs.declared.Clock.{Clock}
@@ -40,9 +40,12 @@ zeroIf false p = p
 zeroIf true p = must (λ v. eqb v 0) 1 p
 
 -- "and every fraction digit written is 0, dropped digits too"
+abbrev pub numbersIf : Bool → ℕ → Bool
+numbersIf false = any
+numbersIf true = atMost 0
+
 abbrev pub fractionIf : Bool → Reader Fraction
-fractionIf false = fraction
-fractionIf true = runAs fractionOf 0 1
+fractionIf z = runAs fractionOf (numbersIf z) 1
 
 -- "Absent fields are 0.": a fraction, and all behind the hour
 abbrev pub noFraction : Fraction

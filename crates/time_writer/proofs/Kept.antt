@@ -18,7 +18,7 @@ use Rattle.types.specs.declared.Reading.{Reading}
 use Rattle.types.specs.declared.Reading.the-variants.{Old, Standard}
 use Rattle.types.specs.declared.Time.{Time}
 use Rattle.parser.specs.Reading.{no, got, stop, lit, seq, opt, alt, orElse, and, pick}
-use Rattle.parser.specs.Digits.{isDigit, digits, numberFrom, number, runAt, runAs, nanoseconds, fractionOf, fraction}
+use Rattle.parser.specs.Digits.{isDigit, digits, numberFrom, number, runAt, ofRun, runAs, nanoseconds, fractionOf}
 use Rattle.parser.specs.Fields.{minute, second, either, precededBy, orZero}
 use Rattle.parser.proofs.Fields.{true≢false, and-first, and-second}
 use Rattle.parser.proofs.Places.{no≢got, stop≢got, got-value, got-place}
@@ -28,7 +28,7 @@ use Rattle.offset.specs.Rules.{offset}
 use Rattle.time.specs.declared.Clock.{Clock}
 use Rattle.time.specs.declared.Smallest.{Smallest}
 use Rattle.time.specs.declared.Smallest.the-variants.{Hour, Minute, Second}
-use Rattle.time.specs.Rules.{hourOf, endsDay, zeroIf, fractionIf, noFraction, orWhole, smallestOf, digitsCounted, sumOf, clockOf, timeFraction, millisecond, secondMillisecond, minuteSecondMillisecond, behindHour, timeOf, timeOffset, afterHour, baseTime, time}
+use Rattle.time.specs.Rules.{hourOf, endsDay, zeroIf, numbersIf, fractionIf, noFraction, orWhole, smallestOf, digitsCounted, sumOf, clockOf, timeFraction, millisecond, secondMillisecond, minuteSecondMillisecond, behindHour, timeOf, timeOffset, afterHour, baseTime, time}
 use Rattle.writing.specs.Spelling.{padded, fractionSpelling}
 use Rattle.writing.specs.Writing.{Readable}
 use Rattle.writing.proofs.Digits.{length-padded, number-padded, padded-digits}
@@ -100,28 +100,23 @@ point-place s at u m e = go (and (ltb at (length s)) (eqb (getD s at 0) 44)) (an
     go false true e = got-place e
     go false false e = absurd (no≢got e)
 
--- what either leaf reads
+-- what a fraction's digits are read as, and where they end
 record ReadRun (s : List ℕ) (at : ℕ) (f : Fraction) (n : ℕ) : Type 0 where
   some-digit : 0 < length (runAt s at)
   is : fractionOf (runAt s at) ≡ f
   ends : at + length (runAt s at) ≡ n
 
 run-of : (z : Bool) (s : List ℕ) (at : ℕ) (f : Fraction) (n : ℕ) → fractionIf z .reads s at ≡ got f n → ReadRun s at f n
-unfolding fraction runAs
-run-of z s at f n e = go z (runAt s at) refl e
+unfolding runAs
+run-of z s at f n e = go (runAt s at) refl e
   where
-    made : (d : List ℕ) → runAt s at ≡ d → 0 < length d → got (fractionOf d) (at + length d) ≡ got f n → ReadRun s at f n
-    made d i h e = record { some-digit = rw i h; is = rw i (got-value e); ends = rw i (got-place e) }
-
-    go : (z : Bool) (d : List ℕ) → runAt s at ≡ d → fractionIf z .reads s at ≡ got f n → ReadRun s at f n
-    go false [] i e = absurd (no≢got (rw i at e))
-    go false (b ∷ d) i e = made (b ∷ d) i (omega arith) (rw i at e)
-    go true [] i e = absurd (no≢got (rw i at e))
-    go true (b ∷ d) i e = zero (leb (number (b ∷ d)) 0) (rw i at e)
+    go : (d : List ℕ) → runAt s at ≡ d → ofRun d no (pick (numbersIf z (number d)) (got (fractionOf d) (at + length d)) (stop 1)) ≡ got f n → ReadRun s at f n
+    go [] i e = absurd (no≢got e)
+    go (b ∷ d) i e = some (numbersIf z (number (b ∷ d))) e
       where
-        zero : (t : Bool) → pick t (got (fractionOf (b ∷ d)) (at + length (b ∷ d))) (stop 1) ≡ got f n → ReadRun s at f n
-        zero true e = made (b ∷ d) i (omega arith) e
-        zero false e = absurd (stop≢got e)
+        some : (t : Bool) → pick t (got (fractionOf (b ∷ d)) (at + length (b ∷ d))) (stop 1) ≡ got f n → ReadRun s at f n
+        some true e = record { some-digit = rw i (omega arith); is = rw i (got-value e); ends = rw i (got-place e) }
+        some false e = absurd (stop≢got e)
 
 hour-not-second : _≡_ {A = Smallest} Hour Second → ⊥
 hour-not-second e = let z : _≡_ {A = ℕ} 0 1 = cc in omega arith

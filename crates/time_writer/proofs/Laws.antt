@@ -10,7 +10,7 @@ use native.Mathlib.Nat.{zero-div, mod-one}
 use borrow.Author.Tests.{le-leb, leb-true, eq-eqb, eqb-true, eqb-false, ne-eqb}
 use lib.Dec.{leb, eqb}
 use lib.IntN.{natAbs}
-use lib.ListN.{length, take}
+use lib.ListN.{take}
 use Rattle.types.specs.declared.Choices.{Choices}
 use Rattle.types.specs.declared.Edition.{Edition}
 use Rattle.types.specs.declared.Edition.the-variants.{E2004, E2019}
@@ -21,22 +21,21 @@ use Rattle.types.specs.declared.Reading.the-variants.{Old, Standard}
 use Rattle.types.specs.declared.Time.{Time}
 use Rattle.types.specs.declared.TimeOffset.{TimeOffset}
 use Rattle.types.specs.declared.TimeOffset.the-variants.{Absent, Given}
-use Rattle.parser.specs.Reading.{lit, seq, opt, pick}
-use Rattle.parser.specs.Digits.{isDigit, field, number, fractionOf}
+use Rattle.parser.specs.Reading.{lit, opt, pick}
+use Rattle.parser.specs.Digits.{isDigit, field, digits, number, any, atMost, fractionOf}
 use Rattle.parser.specs.Fields.{either, precededBy, orZero}
 use Rattle.parser.proofs.Fields.{and-first, and-second}
-use Rattle.parser.proofs.Runs.{AllDigits}
 use Rattle.parser.proofs.Leaves.{From}
 use Rattle.offset.specs.Rules.{offset, offsetHour, offsetZulu}
 use Rattle.time.specs.declared.Clock.{Clock}
 use Rattle.time.specs.declared.Smallest.{Smallest}
-use Rattle.time.specs.declared.Smallest.the-variants.{Hour, Minute, Second}
-use Rattle.time.specs.Rules.{hourOf, endsDay, zeroIf, fractionIf, noFraction, orWhole, smallestOf, digitsCounted, sumOf, clockOf, timeFraction, millisecond, secondMillisecond, minuteSecondMillisecond, behindHour, orAbsent, timeOf, timeOffset, afterHour, baseTime, time}
+use Rattle.time.specs.declared.Smallest.the-variants.{Hour, Second}
+use Rattle.time.specs.Rules.{hourOf, endsDay, zeroIf, numbersIf, fractionIf, noFraction, orWhole, smallestOf, digitsCounted, sumOf, clockOf, timeFraction, millisecond, secondMillisecond, minuteSecondMillisecond, behindHour, orAbsent, timeOf, timeOffset, afterHour, baseTime, time}
 use Rattle.time.proofs.Behind.{of-second}
 use Rattle.writing.specs.Spelling.{padded, signByte, isMinus, isZulu, shiftSpelling, offsetSpelling, clockSpelling, fractionSpelling, timeOffsetSpelling, timeSpelling}
 use Rattle.writing.proofs.Texts.{ReadAs, Refuses, lit-reads, lit-refuses, lit-refuses-end, seq-reads, seq-refuses, map-reads, map-refuses, must-reads, opt-reads, opt-lacks, alt-first, alt-second, alt-refuses, whole}
-use Rattle.writing.proofs.Digits.{begins, field-reads, run-reads, fraction-reads}
-use Rattle.writing.proofs.Yields.{Yields, OrLeftOut, seq-yields, map-yields, opt-yields, alt-yields, must-yields, preceded-yields, field-yields, run-as-yields, fraction-yields, anything, absent-within}
+use Rattle.writing.proofs.Digits.{begins, field-reads, run-reads}
+use Rattle.writing.proofs.Yields.{Yields, OrLeftOut, seq-yields, map-yields, opt-yields, alt-yields, must-yields, preceded-yields, field-yields, run-as-yields, anything, absent-within}
 use Rattle.writing.proofs.Laws.{Spells}
 use Rattle.offset_writer.specs.Ranges.{offsetGiven}
 use Rattle.offset_writer.proofs.Laws.{offset-reads, offset-yields}
@@ -138,14 +137,10 @@ record Fractional (z : Bool) (m s : ℕ) (f : Fraction) (x : List ℕ) : Type 0 
   is : orWhole m s value ≡ record { minute = m; second = s; fraction = f }
   reads : ReadAs (opt (timeFraction Second z m s)) (fractionSpelling (f .digits) (f .nanosecond)) x value
 
--- digits are read by either leaf
-digits-read : (z : Bool) {d x : List ℕ} → number d ≤ upTo z (number d) → AllDigits d → 0 < length d → begins x ≡ false → ReadAs (fractionIf z) d x (fractionOf d)
-digits-read false l h s o = fraction-reads h s o
-digits-read true l h s o = run-reads fractionOf 0 1 h s o l
-
-front-within : (z : Bool) (n u : ℕ) → n ≤ upTo z 999999999 → n / u ≤ upTo z (n / u)
-front-within false n u h = omega arith
-front-within true n u h = let none : n ≡ 0 = omega arith in rw none (omega (arith, zero-div u))
+-- the first digits are 0 where all have to be
+front-within : (z : Bool) (n u : ℕ) → n ≤ upTo z 999999999 → numbersIf z (n / u) ≡ true
+front-within false n u h = refl
+front-within true n u h = let none : n ≡ 0 = omega arith in rw none (le-leb (0 / u) 0 (omega (arith, zero-div u)))
 
 fraction-is : (z : Bool) (m s : ℕ) (f : Fraction) (x : List ℕ) → FractionWithin z f → Behind x → Fractional z m s f x
 unfolding fractionSpelling timeFraction
@@ -161,7 +156,7 @@ fraction-is z m s f x w b = go (eqb (f .digits) 0) refl
         record {
           value = some (clockOf Second m s (fractionOf (take k (padded 9 n))));
           is = rw (d .fraction);
-          reads = rw e (opt-reads (map-reads _ (seq-reads _ (alt-second (lit-refuses 44 refl) (lit-reads 46 _)) (digits-read z (rw (d .number) (front-within z n (10 ^ (9 - k)) (w .nanosecond))) (d .digits) (omega (arith, d .size)) (b .no-digit)))));
+          reads = rw e (opt-reads (map-reads _ (seq-reads _ (alt-second (lit-refuses 44 refl) (lit-reads 46 _)) (run-reads fractionOf (numbersIf z) 1 (d .digits) (omega (arith, d .size)) (b .no-digit) (rw (d .number) (front-within z n (10 ^ (9 - k)) (w .nanosecond)))))));
         }
 
 -- ---- all of it
@@ -226,8 +221,8 @@ zero-yields false hi = field-yields 2 0 hi
 zero-yields true hi = must-yields (λ v. eqb v 0) (λ v f e. (omega arith, omega (arith, eqb-true v 0 e))) 1 (field-yields 2 0 hi)
 
 digits-yield : (z : Bool) → Yields (FractionWithin z) (fractionIf z)
-digits-yield false = fraction-yields digits-within
-digits-yield true = run-as-yields fractionOf 0 1 zeros-within
+digits-yield false = run-as-yields fractionOf any 1 (λ l h. digits-within l)
+digits-yield true = run-as-yields fractionOf (atMost 0) 1 (λ l h. zeros-within l (leb-true (number (digits l)) 0 h))
 
 no-fraction-within : (z : Bool) → FractionWithin z noFraction
 unfolding fractionGiven

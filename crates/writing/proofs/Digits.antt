@@ -12,7 +12,7 @@ use lib.ListN.{length, getD, length-append}
 use lib.Seq.{getD-append-seam, drop-append-seam}
 use Rattle.types.specs.Sums.{withSign}
 use Rattle.parser.specs.Reading.{no, got, lit, pick, within}
-use Rattle.parser.specs.Digits.{isDigit, digitsFrom, field, digits, numberFrom, number, runAt, limit, runAs, run, fractionOf, fraction}
+use Rattle.parser.specs.Digits.{isDigit, digitsFrom, field, digits, numberFrom, number, runAt, atMost, limit, runAs, run}
 use Rattle.parser.proofs.Fields.{DigitAt, digitsFrom-suc, digitsFrom-other, digitsFrom-end}
 use Rattle.parser.proofs.Runs.{AllDigits, none, also, number-append}
 use Rattle.parser.proofs.Leaves.{digit-is-not}
@@ -139,19 +139,14 @@ run-here x (also {b} {d} hb h) o = rw hb (ap (λ (l : List ℕ). b ∷ l) (run-h
 run-at : {d : List ℕ} (x : List ℕ) → AllDigits d → begins x ≡ false → (a : List ℕ) → runAt (a ++ (d ++ x)) (length a) ≡ d
 run-at {d} x h o a = ap digits (drop-append-seam a (d ++ x)) ∙ run-here x h o
 
-pub run-reads : {A : Type 0} (f : List ℕ → A) (most r : ℕ) {d x : List ℕ} → AllDigits d → 0 < length d → begins x ≡ false → number d ≤ most → ReadAs (runAs f most r) d x (f d)
+pub run-reads : {A : Type 0} (f : List ℕ → A) (may : ℕ → Bool) (r : ℕ) {d x : List ℕ} → AllDigits d → 0 < length d → begins x ≡ false → may (number d) ≡ true → ReadAs (runAs f may r) d x (f d)
 unfolding runAs
-run-reads f most r none k o l = absurd (omega arith)
-run-reads f most r (also {b} {d} hb h) k o l = record { reads = λ a. rw (run-at _ (also {b = b} {d = d} hb h) o a, le-leb (number (b ∷ d)) most l) }
+run-reads f may r none k o l = absurd (omega arith)
+run-reads f may r (also {b} {d} hb h) k o l = record { reads = λ a. rw (run-at _ (also {b = b} {d = d} hb h) o a, l) }
 
 pub run-refuses : {x : List ℕ} → begins x ≡ false → Refuses run x
 unfolding runAs
 run-refuses o = record { finds = λ a. rw (run-at _ none o a) }
-
-pub fraction-reads : {d x : List ℕ} → AllDigits d → 0 < length d → begins x ≡ false → ReadAs fraction d x (fractionOf d)
-unfolding fraction
-fraction-reads none k o = absurd (omega arith)
-fraction-reads (also {b} {d} hb h) k o = record { reads = λ a. rw (run-at _ (also {b = b} {d = d} hb h) o a) }
 
 -- ---- a number as it comes
 
@@ -186,4 +181,4 @@ some-digit k n = go (ltb n 10)
 pub decimal-reads : (n : ℕ) (x : List ℕ) → n ≤ limit → begins x ≡ false → ReadAs run (decimal n) x n
 decimal-reads n x l o =
     let e = number-decimal 20 n (omega arith) in
-    rw e at (run-reads number limit 2 {x = x} (decimal-digits 20 n) (some-digit 19 n) o (rw e l))
+    rw e at (run-reads number (atMost limit) 2 {x = x} (decimal-digits 20 n) (some-digit 19 n) o (rw e (le-leb n limit l)))

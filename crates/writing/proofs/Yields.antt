@@ -7,11 +7,9 @@ use mathlib.Core.Path.{_≡_, refl, ap, _∙_}
 use mathlib.Core.Logic.{_⊎_, inl, inr}
 use native.Mathlib.Omega.{arith}
 use borrow.Author.Tests.{leb-true}
-use lib.Dec.{leb}
 use lib.ListN.{length, drop}
-use Rattle.types.specs.declared.Fraction.{Fraction}
 use Rattle.parser.specs.Reading.{Found, no, got, stop, Reader, then, lack, orElse, keep, keepOrStop, mapFound, lit, seq, opt, alt, verify, must, map, give, pick}
-use Rattle.parser.specs.Digits.{field, digits, number, ofRun, limit, runAs, run, fractionOf, fraction}
+use Rattle.parser.specs.Digits.{field, digits, number, ofRun, atMost, limit, runAs, run}
 use Rattle.parser.specs.Fields.{precededBy, orZero}
 use Rattle.parser.proofs.Places.{no≢got, stop≢got, got-value, got-place}
 use Rattle.parser.proofs.Leaves.{From, field-within}
@@ -152,25 +150,17 @@ absent-within hi none f = omega arith
 absent-within hi (some v) f = f .1
 
 -- what holds of all digits with such a number holds of what a run of them is read as
-pub run-as-yields : {A : Type 0} {F : A → Type 0} (f : List ℕ → A) (most r : ℕ) → ((l : List ℕ) → number (digits l) ≤ most → F (f (digits l))) → Yields F (runAs f most r)
+pub run-as-yields : {A : Type 0} {F : A → Type 0} (f : List ℕ → A) (may : ℕ → Bool) (r : ℕ) → ((l : List ℕ) → may (number (digits l)) ≡ true → F (f (digits l))) → Yields F (runAs f may r)
 unfolding runAs
-run-as-yields {A} {F} f most r h = record { fact = λ s at a n e. go (digits (drop at s)) at a n (h (drop at s)) e }
+run-as-yields {A} {F} f may r h = record { fact = λ s at a n e. go (digits (drop at s)) at a n (h (drop at s)) e }
   where
-    within : (d : List ℕ) (at : ℕ) (a : A) (n : ℕ) → (number d ≤ most → F (f d)) → (t : Bool) → leb (number d) most ≡ t → pick t (got (f d) (at + length d)) (stop r) ≡ got a n → F a
-    within d at a n k true i e = let same : f d ≡ a = got-value e in rw (← same) (k (leb-true (number d) most i))
+    within : (d : List ℕ) (at : ℕ) (a : A) (n : ℕ) → (may (number d) ≡ true → F (f d)) → (t : Bool) → may (number d) ≡ t → pick t (got (f d) (at + length d)) (stop r) ≡ got a n → F a
+    within d at a n k true i e = let same : f d ≡ a = got-value e in rw (← same) (k i)
     within d at a n k false i e = absurd (stop≢got e)
 
-    go : (d : List ℕ) (at : ℕ) (a : A) (n : ℕ) → (number d ≤ most → F (f d)) → ofRun d no (pick (leb (number d) most) (got (f d) (at + length d)) (stop r)) ≡ got a n → F a
+    go : (d : List ℕ) (at : ℕ) (a : A) (n : ℕ) → (may (number d) ≡ true → F (f d)) → ofRun d no (pick (may (number d)) (got (f d) (at + length d)) (stop r)) ≡ got a n → F a
     go [] at a n k e = absurd (no≢got e)
-    go (b ∷ d) at a n k e = within (b ∷ d) at a n k (leb (number (b ∷ d)) most) refl e
+    go (b ∷ d) at a n k e = within (b ∷ d) at a n k (may (number (b ∷ d))) refl e
 
 pub run-yields : Yields (λ v. v ≤ limit) run
-run-yields = run-as-yields number limit 2 (λ l h. h)
-
-pub fraction-yields : {F : Fraction → Type 0} → ((l : List ℕ) → F (fractionOf (digits l))) → Yields F fraction
-unfolding fraction
-fraction-yields {F} h = record { fact = λ s at a n e. go (digits (drop at s)) at a n (h (drop at s)) e }
-  where
-    go : (d : List ℕ) (at : ℕ) (a : Fraction) (n : ℕ) → F (fractionOf d) → ofRun d no (got (fractionOf d) (at + length d)) ≡ got a n → F a
-    go [] at a n k e = absurd (no≢got e)
-    go (b ∷ d) at a n k e = let same : fractionOf (b ∷ d) ≡ a = got-value e in rw (← same) k
+run-yields = run-as-yields number (atMost limit) 2 (λ l h. leb-true (number (digits l)) limit h)

@@ -11,10 +11,10 @@ use lib.Dec.{ltb, leb}
 use borrow.Author.Needs.{needs}
 use borrow.Author.Tests.{ltb-true, ltb-false, lt-ltb, le-leb, lt-leb}
 use Rattle.parser.specs.Reading.{Says, got}
-use Rattle.parser.specs.Digits.{fraction, runAt, nanoseconds, atTheEnd}
+use Rattle.parser.specs.Digits.{runAs, fractionOf, fraction, runAt, nanoseconds, atTheEnd}
 use Rattle.runs.specs.Read.{foundRun, fractionAs, fractionFound, runMore}
 use Rattle.parser.proofs.Fields.{DigitAt, digit-at, below-digits, above-digits}
-use Rattle.parser.proofs.Runs.{run-step, run-other, run-end, end-is, end-is-not}
+use Rattle.parser.proofs.Runs.{run-step, run-other, run-end, end-is, end-is-not, any-open}
 use Rattle.runs.proofs.Along.{found-run-says, fraction-is}
 use Rattle.runs.proofs.Nanoseconds.{nanoseconds-small}
 use Rattle.runs.proofs.Factors.{byPlaces, no-digit, nanoseconds-by-places}
@@ -61,20 +61,20 @@ module _ (s : List ℕ) (at value next place : ℕ) (g : Nine s at value next pl
   at-its-end e = omega (arith, g .ends, ap length e)
 
   ended : (more : Bool) → runAt s next ≡ [] → atTheEnd s at ≡ more → Says fraction s at (fractionFound at (foundRun (ltb at next) more value next)) (runMore (foundRun (ltb at next) more value next))
-  unfolding fraction
+  unfolding runAs
   ended more e em =
       let end = at-its-end e in
-      found-run-says (fractionAs at) 1 fraction s at (runAt s at) value next more (rw (fraction-is at value next (runAt s at) (sym (all-read e)) end)) em end
+      found-run-says (fractionAs at) 1 fraction s at (runAt s at) value next more (rw (fraction-is at value next (runAt s at) (sym (all-read e)) end)) (any-open fractionOf 1 s at ∙ em) end
 
   -- all nine digits are there, and the rest of the run is dropped
   nine-all : (end : ℕ) → place ≡ 9 → end ≡ next + length (runAt s next) → Says fraction s at (got (fractionAs at value end) end) (leb (length s) end)
-  unfolding fraction byPlaces
+  unfolding runAs byPlaces
   nine-all end e ee =
       let z : 9 - place ≡ 0 = omega arith in
       let n : value + 0 ≡ nanoseconds (runAt s at) = rw z at (g .number) in
       let ev : nanoseconds (runAt s at) ≡ value = omega (arith, n) in
       let here : end ≡ at + length (runAt s at) = omega (arith, g .ends) in
-      let x = found-run-says (fractionAs at) 1 fraction s at (runAt s at) value end (leb (length s) end) (rw (fraction-is at value end (runAt s at) ev here)) (rw (← here) (sym (leb-not-ltb (length s) end))) here in
+      let x = found-run-says (fractionAs at) 1 fraction s at (runAt s at) value end (leb (length s) end) (rw (fraction-is at value end (runAt s at) ev here)) (any-open fractionOf 1 s at ∙ rw (← here) (sym (leb-not-ltb (length s) end))) here in
       rw (lt-ltb at end (omega (arith, g .here))) at x
 
 abbrev Inv-loop : tie.InvT-loop

@@ -7,10 +7,10 @@ use Rattle.types.specs.declared.Fraction.{Fraction}
 use Rattle.parser.specs.Reading.{Found, Reader, Says, no, got, stop, seq, mapFound}
 use Rattle.parser.specs.Fields.{either}
 use Rattle.parser.specs.Digits.{fractionOf}
-use Rattle.parser.proofs.Ahead.{Ahead, run-ahead, fraction-ahead}
+use Rattle.parser.proofs.Ahead.{run-ahead}
 use Rattle.parser.proofs.Says.{says-map, says-seq-got, says-seq-no}
 use Rattle.time.specs.declared.Smallest.{Smallest}
-use Rattle.time.specs.Rules.{fractionIf, clockOf, timeFraction}
+use Rattle.time.specs.Rules.{numbersIf, fractionIf, clockOf, timeFraction}
 use borrow.Author.Needs.{needs}
 use Rattle.time.proofs.time_fraction.Statement.{statement}
 use Rattle.time.proofs.time_fraction.Tie as tie
@@ -27,11 +27,6 @@ module _ (u : Smallest) (z : Bool) (mi se : ℕ) (s : List ℕ) (at : ℕ) where
   unfolding timeFraction point
   unmarked m h = says-map point s at (clockOf u mi se) no m (says-seq-no (either 44 46) s at (λ _. fractionIf z) m h)
 
--- the digits stand behind it
-digits-ahead : (z : Bool) → Ahead (fractionIf z)
-digits-ahead false = fraction-ahead
-digits-ahead true = run-ahead fractionOf 0 1
-
 -- a fraction by its two numbers
 fraction-by : {f : Fraction} {v d : ℕ} → f .nanosecond ≡ v → f .digits ≡ d → f ≡ record { nanosecond = v; digits = d }
 fraction-by e g = rw (← e, ← g)
@@ -41,7 +36,7 @@ sub-fraction-of c =
     let d = c .before in
     let a = d .before .before .before .before .before .before .before .before .args in
     let frac = rw (d .fraction .given .1) at (d .before .before .fraction-at .ensures) in
-    digits-ahead (a .zero) (a .s .now) _ _ _ (sym (frac .found))
+    run-ahead fractionOf (numbersIf (a .zero)) 1 (a .s .now) _ _ _ (sym (frac .found))
 
 returns : tie.Need-returns
 returns c =
