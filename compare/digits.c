@@ -99,29 +99,30 @@ static void read_back(const struct kind *kind, const char *text, int64_t nanosec
     expect(memcmp(slots, wanted, sizeof slots) == 0, "few slots, and written", nanosecond, digits);
 }
 
-/* Reads a fraction of so many digits behind the kind's hour, or minute, where the front has only that. */
+/* Reads a fraction of so many digits behind the kind's hour, or minute, with nothing behind that. */
 static void behind_unit(const struct kind *kind, int64_t nanosecond, int64_t digits, int by_hour, const char *point, uint32_t choices)
 {
-    int64_t slots[ROOM], all, unit = 1;
+    int64_t slots[ROOM], at, all, unit = 1;
     char text[ROOM], nine[32];
-    size_t length = strlen(kind->front) - (by_hour ? 6 : 3);
-    int standard = choices >= TIROZHBAR_STANDARD, counted;
-    int64_t at;
+    size_t front = strlen(kind->front) - (by_hour ? 6 : 3);
+    int standard = choices >= TIROZHBAR_STANDARD;
+    int left_over = by_hour && !standard;
+    uint32_t number;
 
     snprintf(nine, sizeof nine, "%09" PRId64, nanosecond);
-    snprintf(text, sizeof text, "%.*s%s%.*s", (int)length, kind->front, point, (int)digits, nine);
+    snprintf(text, sizeof text, "%.*s%s%.*s", (int)front, kind->front, point, (int)digits, nine);
     for (at = digits; at < 9; at++)
         unit *= 10;
     all = nanosecond / unit * unit * (standard ? by_hour ? 3600 : 60 : 1);
-    expect(kind->read((const uint8_t *)text, strlen(text), slots, kind->slots, choices) == (by_hour && !standard ? 3u : 0u), "behind a unit", nanosecond, digits);
-    expect(slots[0] == (int64_t)(by_hour && !standard ? length : strlen(text)), "its count", nanosecond, digits);
-    if (by_hour && !standard)
+    number = kind->read((const uint8_t *)text, strlen(text), slots, kind->slots, choices);
+    expect(number == (left_over ? TIROZHBAR_LEFT_OVER : TIROZHBAR_RECORD), "behind a unit", nanosecond, digits);
+    expect(slots[0] == (int64_t)(left_over ? front : strlen(text)), "its count", nanosecond, digits);
+    if (left_over)
         return;
-    counted = all % 1000000000 == 0 ? 0 : 9;
     expect(slots[kind->nanosecond - 2] == (by_hour ? 0 : 56) + all / 60000000000, "its minute", nanosecond, digits);
     expect(slots[kind->nanosecond - 1] == all / 1000000000 % 60, "its second", nanosecond, digits);
     expect(slots[kind->nanosecond] == all % 1000000000, "its nanosecond", nanosecond, digits);
-    expect(slots[kind->digits] == (standard ? counted : digits), "its digits", nanosecond, digits);
+    expect(slots[kind->digits] == (!standard ? digits : all % 1000000000 == 0 ? 0 : 9), "its digits", nanosecond, digits);
 }
 
 static void try(const struct kind *kind, int64_t nanosecond, int64_t digits, uint32_t choices)
@@ -156,12 +157,13 @@ int main(void)
 {
     static const int64_t parts[] = {0, 1, 5, 9, 12, 90, 123, 500, 120000, 999, 1000000, 123456789, 999999999, 1000000000, 4294967296, -1};
     static const int64_t counts[] = {INT64_MIN, -1, 0, 1, 2, 3, 4, 5, 6, 7, 8, 9, 10, 11, 4294967296, 4294967299, INT64_MAX};
+    const uint32_t last = TIROZHBAR_STANDARD | TIROZHBAR_2004;
     size_t k, p, c;
     uint32_t choices;
     int64_t scale;
 
     for (k = 0; k < sizeof kinds / sizeof *kinds; k++)
-        for (choices = TIROZHBAR_2019; choices <= (TIROZHBAR_STANDARD | TIROZHBAR_2004); choices++)
+        for (choices = TIROZHBAR_2019; choices <= last; choices++)
             for (p = 0; p < sizeof parts / sizeof *parts; p++)
                 for (scale = 1; scale <= 1000000000; scale *= 10) {
                     for (c = 0; c < sizeof counts / sizeof *counts; c++)
@@ -173,8 +175,9 @@ int main(void)
                 }
     for (k = 0; k < sizeof kinds / sizeof *kinds; k++) {
         int64_t slots[ROOM] = {0};
+        uint32_t number = kinds[k].read((const uint8_t *)kinds[k].front, strlen(kinds[k].front), slots, ROOM, last + 1);
 
-        expect(kinds[k].read((const uint8_t *)kinds[k].front, strlen(kinds[k].front), slots, ROOM, choices) == TIROZHBAR_NO_SUCH_CHOICE, "no choice", 0, 0);
+        expect(number == TIROZHBAR_NO_SUCH_CHOICE, "no choice", 0, 0);
     }
     printf("%lu checks, all as they have to be\n", calls);
     return 0;

@@ -43,12 +43,14 @@
  * Any other number gets 254, before ROOM is looked at. Without TIROZHBAR_STANDARD a fraction is one of a second, also where no second was
  * written, and none may follow an hour. With it 21:56.5 is 21:56:30, and 21.5 is 21:30:00: of the digits the first nine count, that many
  * times 60 nanoseconds after a minute and 3600 after an hour. DIGITS is then 0 where the nanosecond is 0, and 9 elsewhere. After a second
- * nothing differs. What either leaves is written alike, with its second, and is read back by both. Under 2004 hour 24 is a record if the minute and the second that are read and every
- * digit of the fraction are 0; else the number is 1. The record's hour is 24, and a date-time keeps the date that stands before it. Such a
- * record is written for 2004 alone: for 2019 no reader leaves it, and the number is 4.
+ * nothing differs. What either leaves is written alike, with its second, and is read back by both.
  *
- * tirozhbar_why says what broke a text, under 2019: it reads the LENGTH bytes at TEXT, writes a number to PLACE, which lies apart from
- * them, and returns another:
+ * Under 2004 hour 24 is a record if the minute and the second that are read and every digit of the fraction are 0; else the number is 1.
+ * The record's hour is 24, and a date-time keeps the date that stands before it. Such a record is written for 2004 alone: for 2019 no
+ * reader leaves it, and the number is 4.
+ *
+ * tirozhbar_why says what broke a text, under TIROZHBAR_2019: it reads the LENGTH bytes at TEXT, writes a number to PLACE, which lies apart
+ * from them, and returns another:
  *
  *     TIROZHBAR_OK                0  tirozhbar_parse_* gives a record; PLACE is LENGTH
  *     TIROZHBAR_EARLY             1  it does not, but it would with some more bytes behind the text; PLACE is LENGTH

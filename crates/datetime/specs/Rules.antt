@@ -1,4 +1,4 @@
--- Document 01's rule of date-times: a date, `T`, a time, of the edition that the caller names.
+-- Document 01's rule of date-times: a date, `T`, a time, of the edition and in the reading that the caller names.
 use Rattle.types.specs.declared.Choices.{Choices}
 use Rattle.types.specs.declared.Date.{Date}
 use Rattle.types.specs.declared.Time.{Time}

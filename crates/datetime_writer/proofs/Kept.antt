@@ -1,4 +1,4 @@
--- Writing a date-time that was read gives back the text's own fraction: its time's.
+-- Writing a date-time that was read gives back the text's own fraction, as writing its time does.
 use Prim.Native.Nat.{ℕ}
 use mathlib.Core.List.{List}
 use mathlib.Core.Path.{_≡_}

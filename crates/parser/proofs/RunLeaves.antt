@@ -36,7 +36,8 @@ zero-more : (s : List ℕ) (at : ℕ) → at ≤ length s → atTheEnd s at ≡ 
 unfolding digits
 zero-more s at le h = rw (drop-append-le at s (48 ∷ []) le) (digits-all (drop at s) (48 ∷ []) (omega (arith, run-reaches s at le h, length-drop at s)))
 
-of-run : {A : Type 0} (d : List ℕ) (a b : A) → 0 < length d → ofRun d a b ≡ b
+-- what stands for a run with a digit
+pub of-run : {A : Type 0} (d : List ℕ) (a b : A) → 0 < length d → ofRun d a b ≡ b
 of-run [] a b h = absurd (omega arith)
 of-run (c ∷ d) a b h = refl
 

@@ -5,7 +5,8 @@ use mathlib.Core.List.{List}
 use mathlib.Core.Bool.{Bool, true, false}
 use mathlib.Core.Option.{Option, none}
 use mathlib.Core.Path.{_≡_, refl, sym, ap, _∙_}
-use Rattle.parser.specs.Reading.{Found, no, got, stop, Reader, seq, opt, lack, alt, verify, keep, must, keepOrStop, map, mapFound, or, Says, SaysOn}
+use Rattle.parser.specs.Reading.{Found, no, got, stop, Reader, seq, opt, lack, alt, failed, verify, keep, must, keepOrStop, map, mapFound, or, Says, SaysOn}
+use Rattle.parser.proofs.Fields.{true≢false}
 use Rattle.parser.proofs.Places.{Fails}
 use Rattle.parser.proofs.Hopeful.{AtEnd}
 
@@ -55,13 +56,15 @@ module _ {A : Type 0} (p : Reader A) (s : List ℕ) (at : ℕ) where
   unfolding alt
   says-alt-no q m f l h k = record { found = rw (← h .found) (k .found); more = rw (← h .found, ← h .more, ← k .more) }
 
-  pub says-alt-got : (q : Reader A) (a : A) (n : ℕ) (m : Bool) → Says p s at (got a n) m → Says (alt p q) s at (got a n) m
+  -- whatever is no failure is kept
+  pub says-alt-first : (q : Reader A) (f : Found A) (m : Bool) → failed f ≡ false → Says p s at f m → Says (alt p q) s at f m
   unfolding alt
-  says-alt-got q a n m h = record { found = rw (← h .found); more = rw (← h .found, ← h .more, or-false m) }
+  says-alt-first q no m e h = absurd (true≢false e)
+  says-alt-first q (stop r) m e h = record { found = rw (← h .found); more = rw (← h .found, ← h .more, or-false m) }
+  says-alt-first q (got a n) m e h = record { found = rw (← h .found); more = rw (← h .found, ← h .more, or-false m) }
 
-  pub says-alt-stop : (q : Reader A) (r : ℕ) (m : Bool) → Says p s at (stop r) m → Says (alt p q) s at (stop r) m
-  unfolding alt
-  says-alt-stop q r m h = record { found = rw (← h .found); more = rw (← h .found, ← h .more, or-false m) }
+  pub says-alt-got : (q : Reader A) (a : A) (n : ℕ) (m : Bool) → Says p s at (got a n) m → Says (alt p q) s at (got a n) m
+  says-alt-got q a n m h = says-alt-first q (got a n) m refl h
 
 -- an optional item that the end of the input cuts short, before what fails there
 pub says-cut : {A B : Type 0} (p : Reader A) (q : Option A → Reader B) (s : List ℕ) (at : ℕ) → AtEnd p → Fails (q none) → Says p s at no true → Says (seq (opt p) q) s at no true
@@ -73,30 +76,13 @@ says-cut p q s at ep fq h = record { found = rw (← h .found, fq s at (ep s at 
 pub says-on : {A : Type 0} (p : Reader A) (s : List ℕ) (at : ℕ) (f : Found A) (b m : Bool) → Says p s at f m → SaysOn b p s at f (or b m)
 says-on p s at f b m h = record { found = h .found; more = rw (h .more) }
 
-pub on-says : {A : Type 0} (p : Reader A) (s : List ℕ) (at : ℕ) (f : Found A) (m : Bool) → SaysOn false p s at f m → Says p s at f m
-on-says p s at f m h = record { found = h .found; more = h .more }
+pub on-seq-no : {A B : Type 0} (b : Bool) (p : Reader A) (q : A → Reader B) (s : List ℕ) (at : ℕ) (m : Bool) → SaysOn b p s at no m → SaysOn b (seq p q) s at no m
+unfolding seq
+on-seq-no b p q s at m h = record { found = rw (← h .found); more = rw (← h .found, or-false (p .more s at)) (h .more) }
 
-or-assoc : (a b c : Bool) → or (or a b) c ≡ or a (or b c)
-or-assoc true b c = refl
-or-assoc false b c = refl
-
-module _ {A B : Type 0} (b : Bool) (p : Reader A) (q : A → Reader B) (s : List ℕ) (at : ℕ) where
-  pub on-seq-got : (a : A) (n : ℕ) (m : Bool) (f : Found B) (l : Bool) → SaysOn b p s at (got a n) m → SaysOn m (q a) s n f l → SaysOn b (seq p q) s at f l
-  unfolding seq
-  on-seq-got a n m f l h k = record { found = rw (← h .found) (k .found); more = k .more ∙ rw (h .more, ← h .found) (or-assoc b (p .more s at) (q a .more s n)) }
-
-  pub on-seq-no : (m : Bool) → SaysOn b p s at no m → SaysOn b (seq p q) s at no m
-  unfolding seq
-  on-seq-no m h = record { found = rw (← h .found); more = rw (← h .found, or-false (p .more s at)) (h .more) }
-
-module _ {A : Type 0} (b : Bool) (p : Reader A) (s : List ℕ) (at : ℕ) where
-  pub on-map : {B : Type 0} (g : A → B) (f : Found A) (m : Bool) → SaysOn b p s at f m → SaysOn b (map g p) s at (mapFound g f) m
-  unfolding map
-  on-map g f m h = record { found = ap (mapFound g) (h .found); more = h .more }
-
-  pub on-opt : (f : Found A) (m : Bool) → SaysOn b p s at f m → SaysOn b (opt p) s at (lack at f) m
-  unfolding opt
-  on-opt f m h = record { found = ap (lack at) (h .found); more = h .more }
+pub on-map : {A B : Type 0} (b : Bool) (p : Reader A) (s : List ℕ) (at : ℕ) (g : A → B) (f : Found A) (m : Bool) → SaysOn b p s at f m → SaysOn b (map g p) s at (mapFound g f) m
+unfolding map
+on-map b p s at g f m h = record { found = ap (mapFound g) (h .found); more = h .more }
 
 pub says-seq-on : {A B : Type 0} (p : Reader A) (q : A → Reader B) (s : List ℕ) (at : ℕ) (a : A) (n : ℕ) (m : Bool) (f : Found B) (l : Bool) → Says p s at (got a n) m → SaysOn m (q a) s n f l → Says (seq p q) s at f l
 unfolding seq

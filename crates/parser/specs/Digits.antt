@@ -1,4 +1,4 @@
--- Digits: fields of so many, runs of any number, and the fraction of a second.
+-- Digits: fields of so many, runs of any number, and the fraction.
 use Prim.Native.Nat.{ℕ, zero, suc, _+_, _*_, _-_}
 use mathlib.Core.List.{List, [], _∷_, _++_}
 use mathlib.Core.Bool.{Bool, true, false, not}
@@ -99,6 +99,6 @@ upToNine n = pick (ltb 9 n) 9 n
 abbrev pub fractionOf : List ℕ → Fraction
 fractionOf d = record { nanosecond = nanoseconds d; digits = upToNine (length d) }
 
--- "one or more digits", of any number, as a fraction of a second
+-- "one or more digits", of any number, as a fraction
 abbrev pub fraction : Reader Fraction
 fraction = runAs fractionOf any 1

@@ -93,7 +93,7 @@ fn digits_end(s: &[u8], at: usize) -> usize
     next
 }
 
-// A fraction's first nine places, in nanoseconds.
+// A fraction's first nine places, in billionths.
 const FACTORS: [u32; 9] = [
     100000000,
     10000000,
@@ -114,7 +114,7 @@ fn factor(place: usize) -> u32
     FACTORS[place]
 }
 
-// The fraction of a second after its comma or point, in nanoseconds: digits past the ninth are read and dropped.
+// The fraction after its comma or point, in billionths: digits past the ninth are read and dropped.
 pub fn fraction_nanosecond(s: &[u8], at: usize) -> Run
     ensures { λ r. ⌜ Says fraction (now (s .entry)) at (fractionFound at r) (runMore r) ⌝ }
 {
@@ -151,7 +151,7 @@ pub fn digits_stored(written: usize) -> u32
     if 9 < written { 9 } else { written as u32 }
 }
 
-// A fraction of so many nanoseconds, of which so many digits were written.
+// A fraction of so many billionths, of which so many digits were written.
 pub fn fraction_of(nanosecond: u32, written: usize) -> Fraction
     ensures nanosecond { λ r. ⌜ r .nanosecond ≡ nanosecond ⌝ }
     ensures digits { λ r. ⌜ r .digits ≡ upToNine written ⌝ }

@@ -15,6 +15,7 @@ use Rattle.parser.specs.Digits.{isDigit, digits, number, numberFrom, runAt, ofR
 use Rattle.parser.specs.Fields.{either}
 use Rattle.parser.proofs.Fields.{true≢false, and-first, and-second}
 use Rattle.parser.proofs.Places.{no≢got, stop≢got, got-place, Bounded, Foreign, seq-bounded, alt-bounded, lit-bounded, run-bounded, run-foreign}
+use Rattle.parser.proofs.RunLeaves.{of-run}
 use Rattle.shortening.specs.Points.{isPoint}
 use Rattle.shortening.proofs.Cuts.{Cut, whole, kept, Place, behind, Carried, Simulates}
 use Rattle.shortening.proofs.Local.{Local, lit-local, run-local, alt-local, seq-local}
@@ -127,10 +128,6 @@ unfolding digits
 digits-through [] x h = refl
 digits-through (b ∷ l) x h = rw (and-first (isDigit b) (allDigits l) h, digits-through l x (and-second (isDigit b) h))
 
-of-run : {A : Type 0} (d : List ℕ) (f : Found A) → 0 < length d → ofRun d no f ≡ f
-of-run [] f h = absurd (omega arith)
-of-run (b ∷ d) f h = refl
-
 module _ {A : Type 0} (q : Reader A) (l : Leaf q) where
   abbrev point : Reader A
   point = seq (either 44 46) (λ _. q)
@@ -186,7 +183,7 @@ module _ {A : Type 0} (q : Reader A) (l : Leaf q) where
       let run : runAt s (length u + 1) ≡ n ++ (r ++ digits y) = rw (drop-append-add u ((z ∷ (n ++ r)) ++ y) 1, append-assoc n r y, digits-through n (r ++ y) an, digits-through r y ar) in
       let size : length u + 1 + length (n ++ (r ++ digits y)) ≡ length (u ++ z ∷ (n ++ r)) + length (digits y) = omega (arith, length-append n (r ++ digits y), length-append r (digits y), length-append u (z ∷ (n ++ r)), length-append n r) in
       let some : 0 < length (n ++ (r ++ digits y)) = omega (arith, length-append n (r ++ digits y), length-append r (digits y)) in
-      point-at s (length u) ∙ rw (getD-append-seam u z ((n ++ r) ++ y) 0, hz) (l .reads s (length u + 1) ∙ rw (run, size) (of-run (n ++ (r ++ digits y)) (l .value (n ++ (r ++ digits y)) (length (u ++ z ∷ (n ++ r)) + length (digits y))) some))
+      point-at s (length u) ∙ rw (getD-append-seam u z ((n ++ r) ++ y) 0, hz) (l .reads s (length u + 1) ∙ rw (run, size) (of-run (n ++ (r ++ digits y)) no (l .value (n ++ (r ++ digits y)) (length (u ++ z ∷ (n ++ r)) + length (digits y))) some))
 
   module _ (z : FractionCut) where
     abbrev here : Cut

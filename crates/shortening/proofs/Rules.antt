@@ -13,9 +13,9 @@ use Rattle.parser.specs.Reading.{seq}
 use Rattle.parser.specs.Digits.{field, number}
 use Rattle.parser.specs.Fields.{signed, either, precededBy, orZero}
 use Rattle.offset.specs.Rules.{offset, offsetHour, offsetMinute, offsetZulu}
-use Rattle.time.specs.declared.Smallest.{Smallest}
-use Rattle.time.specs.declared.Smallest.the-variants.{Hour}
-use Rattle.time.specs.Rules.{hourOf, endsDay, zeroIf, numbersIf, fractionIf, smallestOf, time, baseTime, afterHour, timeOffset, behindHour, minuteSecondMillisecond, secondMillisecond, millisecond, timeFraction}
+use Rattle.time.specs.declared.TimeUnit.{TimeUnit}
+use Rattle.time.specs.declared.TimeUnit.the-variants.{Hour}
+use Rattle.time.specs.Rules.{hourOf, endsDay, zeroIf, numbersIf, fractionIf, unitOf, time, baseTime, afterHour, timeOffset, behindHour, minuteSecondMillisecond, secondMillisecond, millisecond, timeFraction}
 use Rattle.date.specs.Rules.{date, year, weekAndDay, dayOfWeek, mdNumeric, ordinal, monthAndDay, dayOfMonth}
 use Rattle.datetime.specs.Rules.{dateTime, afterDate, timeOf}
 use Rattle.duration.specs.Rules.{duration, partsRule, durationTime, durationBaseTime}
@@ -56,23 +56,23 @@ fraction-trims : (z : Bool) → Trims fractions 11 (seq (either 44 46) (λ _. fr
 fraction-trims z = point-trims (fractionIf z) (fraction-leaf (numbersIf z) 1 (joined z))
   where
     joined : (z : Bool) (c : FractionCut) (x : List ℕ) → numbersIf z (number (c .nine ++ (c .tenth ∷ c .next ∷ x))) ≡ numbersIf z (number (c .nine ++ (c .one ∷ x)))
-    joined true = zero-joined
+    joined true c x = zero-joined c x
     joined false c x = refl
 
-point-of-trims : (u : Smallest) (z : Bool) (mi se : ℕ) → Trims fractions 11 (timeFraction u z mi se)
+unit-trims : (u : TimeUnit) (z : Bool) (mi se : ℕ) → Trims fractions 11 (timeFraction u z mi se)
 unfolding timeFraction
-point-of-trims u z mi se = map-trims _ (fraction-trims z)
+unit-trims u z mi se = map-trims _ (fraction-trims z)
 
 clock-trims : (r : Reading) (z : Bool) → Trims fractions 17 (minuteSecondMillisecond r z)
 unfolding minuteSecondMillisecond secondMillisecond millisecond
 clock-trims r z =
     seq-trims (zero-trims z 59) (λ mi.
-    seq-trims (opt-trims (zero-trims z 60)) (λ se. map-trims _ (opt-trims (point-of-trims (smallestOf r se) z mi (orZero se)))))
+    seq-trims (opt-trims (zero-trims z 60)) (λ se. map-trims _ (opt-trims (unit-trims (unitOf r se) z mi (orZero se)))))
 
 behind-trims : (r : Reading) (z : Bool) → Trims fractions 17 (behindHour r z)
 unfolding behindHour
 behind-trims Old z = clock-trims Old z
-behind-trims Standard z = alt-trims (clock-trims Standard z) (point-of-trims Hour z 0 0)
+behind-trims Standard z = alt-trims (clock-trims Standard z) (unit-trims Hour z 0 0)
 
 hour-trims : (e : Edition) → Trims fractions 2 (hourOf e)
 hour-trims E2019 = field-trims 2 0 23

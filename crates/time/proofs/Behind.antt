@@ -8,15 +8,15 @@ use mathlib.Core.Path.{_≡_, refl, sym}
 use native.Mathlib.Omega.{arith}
 use Rattle.types.specs.declared.Reading.{Reading}
 use Rattle.types.specs.declared.Reading.the-variants.{Old, Standard}
-use Rattle.parser.specs.Reading.{Found, no, got, stop, Says}
-use Rattle.parser.proofs.Says.{says-alt-no, says-alt-got, says-alt-stop}
+use Rattle.parser.specs.Reading.{Found, no, failed, Says}
+use Rattle.parser.proofs.Says.{says-alt-no, says-alt-first}
 use Rattle.time.specs.declared.Clock.{Clock}
-use Rattle.time.specs.declared.Smallest.the-variants.{Hour, Second}
-use Rattle.time.specs.Rules.{smallestOf, timeFraction, minuteSecondMillisecond, behindHour}
-use Rattle.time.proofs.Unmarked.{no-fraction, minute-no-mark}
+use Rattle.time.specs.declared.TimeUnit.the-variants.{Hour, Second}
+use Rattle.time.specs.Rules.{unitOf, timeFraction, minuteSecondMillisecond, behindHour}
+use Rattle.time.proofs.Unmarked.{no-point, minute-no-mark}
 
--- "After a second nothing differs from the old reading"
-pub of-second : (r : Reading) (se : ℕ) → smallestOf r (some se) ≡ Second
+-- after a second nothing differs from the old reading
+pub of-second : (r : Reading) (se : ℕ) → unitOf r (some se) ≡ Second
 of-second Old se = refl
 of-second Standard se = refl
 
@@ -24,21 +24,17 @@ old≢standard : Old ≡ Standard → ⊥
 old≢standard e = let z : _≡_ {A = ℕ} 0 1 = cc in omega arith
 
 module _ (z : Bool) (s : List ℕ) (at : ℕ) where
-  pub behind-got : (r : Reading) (c : Clock) (n : ℕ) (m : Bool) → Says (minuteSecondMillisecond r z) s at (got c n) m → Says (behindHour r z) s at (got c n) m
+  -- whatever is no failure is kept
+  pub behind-first : (r : Reading) (f : Found Clock) (m : Bool) → failed f ≡ false → Says (minuteSecondMillisecond r z) s at f m → Says (behindHour r z) s at f m
   unfolding behindHour
-  behind-got Old c n m h = h
-  behind-got Standard c n m h = says-alt-got (minuteSecondMillisecond Standard z) s at (timeFraction Hour z 0 0) c n m h
-
-  pub behind-stop : (r : Reading) (m : Bool) → Says (minuteSecondMillisecond r z) s at (stop 1) m → Says (behindHour r z) s at (stop 1) m
-  unfolding behindHour
-  behind-stop Old m h = h
-  behind-stop Standard m h = says-alt-stop (minuteSecondMillisecond Standard z) s at (timeFraction Hour z 0 0) 1 m h
+  behind-first Old f m e h = h
+  behind-first Standard f m e h = says-alt-first (minuteSecondMillisecond Standard z) s at (timeFraction Hour z 0 0) f m e h
 
   pub behind-cut : (r : Reading) → Says (minuteSecondMillisecond r z) s at no true → Says (behindHour r z) s at no true
   unfolding behindHour
   behind-cut Old h = h
   behind-cut Standard h =
-      let none = no-fraction Hour z 0 0 s at (minute-no-mark Standard z s at (sym (h .more)) (sym (h .found))) in
+      let none = no-point Hour z 0 0 s at (minute-no-mark Standard z s at (sym (h .more)) (sym (h .found))) in
       says-alt-no (minuteSecondMillisecond Standard z) s at (timeFraction Hour z 0 0) true no _ h (record { found = sym none; more = refl })
 
   pub behind-none : (r : Reading) → r ≡ Old → Says (minuteSecondMillisecond r z) s at no false → Says (behindHour r z) s at no false

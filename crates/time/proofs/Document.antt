@@ -26,10 +26,10 @@ clock =
 abbrev pub baseTime : Reader Time
 baseTime = seq hour (λ h. seq (opt clock) (λ c. rules.timeOffset h (rules.orWhole 0 0 c)))
 
-pub base-time-2019 : rules.baseTime document01 ≡ baseTime
+pub base-time-document01 : rules.baseTime document01 ≡ baseTime
 unfolding rules.baseTime rules.afterHour rules.behindHour rules.minuteSecondMillisecond rules.secondMillisecond rules.millisecond rules.timeFraction
-base-time-2019 = refl
+base-time-document01 = refl
 
-pub time-2019 : rules.time document01 ≡ precededBy 84 baseTime
+pub time-document01 : rules.time document01 ≡ precededBy 84 baseTime
 unfolding rules.time rules.baseTime rules.afterHour rules.behindHour rules.minuteSecondMillisecond rules.secondMillisecond rules.millisecond rules.timeFraction
-time-2019 = refl
+time-document01 = refl

@@ -15,41 +15,39 @@ use Rattle.parser.specs.Reading.{Found, no, got, stop, Reader, seq, after, opt,
 use Rattle.parser.specs.Digits.{field, reach, lowest, highest, number, runAt, ofRun, atTheEnd, atMost, runAs, fractionOf}
 use Rattle.parser.specs.Fields.{minute, second, precededBy, orZero}
 use Rattle.parser.proofs.Fields.{true≢false, and-second}
-use Rattle.parser.proofs.Places.{stop≢got, Fails}
-use Rattle.parser.proofs.Hopeful.{AtEnd}
+use Rattle.parser.proofs.Places.{stop≢got}
 use Rattle.parser.proofs.Leaves.{field-definite}
 use Rattle.parser.proofs.General.{field-eager}
-use Rattle.parser.proofs.Items.{either-mark}
 use Rattle.parser.proofs.Stricter.{Stricter, same-stricter, must-stricter, run-stricter, map-stricter, opt-stricter, alt-stricter, seq-stricter, Valued}
 use Rattle.parser.proofs.Unstopped.{no≢stop, Awaits, field-unstopped, definite-awaits, must-awaits, preceded-awaits}
 use Rattle.offset.specs.Rules.{offset}
 use Rattle.offset.proofs.Laws.{offset-unstopped}
 use Rattle.time.specs.declared.Clock.{Clock}
-use Rattle.time.specs.declared.Smallest.{Smallest}
-use Rattle.time.specs.declared.Smallest.the-variants.{Hour}
-use Rattle.time.specs.Rules.{orWhole, smallestOf, clockOf, timeOf, zeroIf, fractionIf, timeFraction, millisecond, secondMillisecond, minuteSecondMillisecond, behindHour, timeOffset, afterHour}
-use Rattle.time.proofs.Unmarked.{mark, zero-no-mark, no-fraction, minute-no-mark}
+use Rattle.time.specs.declared.TimeUnit.{TimeUnit}
+use Rattle.time.specs.declared.TimeUnit.the-variants.{Hour}
+use Rattle.time.specs.Rules.{orWhole, unitOf, clockOf, timeOf, zeroIf, fractionIf, timeFraction, millisecond, secondMillisecond, minuteSecondMillisecond, behindHour, timeOffset, afterHour}
+use Rattle.time.proofs.Unmarked.{mark, mark-at-end, mark-fails, zero-no-mark, no-point, minute-no-mark}
 
 -- ---- stricter than behind any other hour
 
 zero-stricter : (p : Reader ℕ) → Stricter (zeroIf true p) p
 zero-stricter p = must-stricter (λ v. eqb v 0) 1 p
 
-fraction-stricter : (u : Smallest) (mi se : ℕ) → Stricter (timeFraction u true mi se) (timeFraction u false mi se)
+point-stricter : (u : TimeUnit) (mi se : ℕ) → Stricter (timeFraction u true mi se) (timeFraction u false mi se)
 unfolding timeFraction
-fraction-stricter u mi se = map-stricter _ (seq-stricter same-stricter (λ _. run-stricter fractionOf (atMost 0) 1 1))
+point-stricter u mi se = map-stricter _ (seq-stricter same-stricter (λ _. run-stricter fractionOf (atMost 0) 1 1))
 
 minute-stricter : (r : Reading) → Stricter (minuteSecondMillisecond r true) (minuteSecondMillisecond r false)
 unfolding minuteSecondMillisecond secondMillisecond millisecond
 minute-stricter r =
     seq-stricter (seq-stricter same-stricter (λ _. zero-stricter minute)) (λ mi.
     seq-stricter (opt-stricter (seq-stricter same-stricter (λ _. zero-stricter second))) (λ se.
-    map-stricter _ (opt-stricter (fraction-stricter (smallestOf r se) mi (orZero se)))))
+    map-stricter _ (opt-stricter (point-stricter (unitOf r se) mi (orZero se)))))
 
 behind-stricter : (r : Reading) → Stricter (behindHour r true) (behindHour r false)
 unfolding behindHour
 behind-stricter Old = minute-stricter Old
-behind-stricter Standard = alt-stricter (minute-stricter Standard) (fraction-stricter Hour 0 0)
+behind-stricter Standard = alt-stricter (minute-stricter Standard) (point-stricter Hour 0 0)
 
 pub after-hour-stricter : (r : Reading) (h : ℕ) → Stricter (afterHour r true h) (afterHour r false h)
 unfolding afterHour
@@ -81,12 +79,6 @@ map-valued f p s at v = (f (v .0), (v .1 .0, rw (v .1 .1)))
 
 -- ---- the fraction
 
-mark-at-end : AtEnd mark
-mark-at-end = either-mark {l = 44 ∷ 46 ∷ []} 44 46 refl refl .at-end
-
-mark-fails : Fails mark
-mark-fails = either-mark {l = 44 ∷ 46 ∷ []} 44 46 refl refl .item .fails
-
 -- open digits are all 0 so far
 run-open : (s : List ℕ) (at r : ℕ) → fractionIf true .more s at ≡ true → fractionIf true .reads s at ≡ stop r → ⊥
 unfolding runAs
@@ -96,9 +88,9 @@ run-open s at r h e = go (runAt s at) (and-second (atTheEnd s at) h) e
     go [] small e = no≢stop e
     go (b ∷ d) small e = stop≢got (sym (rw small at e))
 
-fraction-open : (u : Smallest) (mi se : ℕ) (s : List ℕ) (at r : ℕ) → timeFraction u true mi se .more s at ≡ true → timeFraction u true mi se .reads s at ≡ stop r → ⊥
+point-open : (u : TimeUnit) (mi se : ℕ) (s : List ℕ) (at r : ℕ) → timeFraction u true mi se .more s at ≡ true → timeFraction u true mi se .reads s at ≡ stop r → ⊥
 unfolding timeFraction map seq
-fraction-open u mi se s at r h e = go (mark .more s at) refl (mark .reads s at) refl h
+point-open u mi se s at r h e = go (mark .more s at) refl (mark .reads s at) refl h
   where
     digits : (n : ℕ) (f : Found Fraction) → fractionIf true .reads s n ≡ f → fractionIf true .more s n ≡ true → mapFound (clockOf u mi se) f ≡ stop r → ⊥
     digits n no ef h e = no≢stop e
@@ -111,7 +103,7 @@ fraction-open u mi se s at r h e = go (mark .more s at) refl (mark .reads s at) 
     go false em (stop q) ef h = true≢false (sym h)
     go false em (got x n) ef h = digits n (fractionIf true .reads s n) refl h (rw ef at e)
 
-millisecond-valued : (u : Smallest) (mi se : ℕ) (s : List ℕ) (at : ℕ) → ((r : ℕ) → timeFraction u true mi se .reads s at ≡ stop r → ⊥) → Valued (millisecond u true mi se) s at
+millisecond-valued : (u : TimeUnit) (mi se : ℕ) (s : List ℕ) (at : ℕ) → ((r : ℕ) → timeFraction u true mi se .reads s at ≡ stop r → ⊥) → Valued (millisecond u true mi se) s at
 unfolding millisecond
 millisecond-valued u mi se s at h = map-valued (orWhole mi se) (opt (timeFraction u true mi se)) s at (opt-valued (timeFraction u true mi se) s at h)
 
@@ -121,14 +113,14 @@ second-valued : (r : Reading) (mi : ℕ) (s : List ℕ) (at : ℕ) → secondMil
 unfolding secondMillisecond millisecond map seq opt
 second-valued r mi s at h = go (zeroField 60 .more s at) refl (zeroField 60 .reads s at) refl h
   where
-    on : (o : Option ℕ) (n : ℕ) → opt (zeroField 60) .reads s at ≡ got o n → ((q : ℕ) → timeFraction (smallestOf r o) true mi (orZero o) .reads s n ≡ stop q → ⊥) → Valued (secondMillisecond r true mi) s at
-    on o n e h = let v = millisecond-valued (smallestOf r o) mi (orZero o) s n h in (v .0, (v .1 .0, rw (e, v .1 .1)))
+    on : (o : Option ℕ) (n : ℕ) → opt (zeroField 60) .reads s at ≡ got o n → ((q : ℕ) → timeFraction (unitOf r o) true mi (orZero o) .reads s n ≡ stop q → ⊥) → Valued (secondMillisecond r true mi) s at
+    on o n e h = let v = millisecond-valued (unitOf r o) mi (orZero o) s n h in (v .0, (v .1 .0, rw (e, v .1 .1)))
 
-    go : (m : Bool) → zeroField 60 .more s at ≡ m → (f : Found ℕ) → zeroField 60 .reads s at ≡ f → or m (after (lack at f) (λ o n. millisecond (smallestOf r o) true mi (orZero o) .more s n)) ≡ true → Valued (secondMillisecond r true mi) s at
-    go true em f ef h = on none at (rw (zero-awaits 60 refl .none s at em)) (λ q e. no≢stop (sym (no-fraction (smallestOf r none) true mi 0 s at (zero-no-mark true 60 s at em)) ∙ e))
-    go false em no ef h = on none at (rw ef) (λ q e. fraction-open (smallestOf r none) mi 0 s at q h e)
+    go : (m : Bool) → zeroField 60 .more s at ≡ m → (f : Found ℕ) → zeroField 60 .reads s at ≡ f → or m (after (lack at f) (λ o n. millisecond (unitOf r o) true mi (orZero o) .more s n)) ≡ true → Valued (secondMillisecond r true mi) s at
+    go true em f ef h = on none at (rw (zero-awaits 60 refl .none s at em)) (λ q e. no≢stop (sym (no-point (unitOf r none) true mi 0 s at (zero-no-mark true 60 s at em)) ∙ e))
+    go false em no ef h = on none at (rw ef) (λ q e. point-open (unitOf r none) mi 0 s at q h e)
     go false em (stop q) ef h = absurd (true≢false (sym h))
-    go false em (got a n) ef h = on (some a) n (rw ef) (λ q e. fraction-open (smallestOf r (some a)) mi a s n q h e)
+    go false em (got a n) ef h = on (some a) n (rw ef) (λ q e. point-open (unitOf r (some a)) mi a s n q h e)
 
 -- ---- the minute, and all of it
 
@@ -151,8 +143,8 @@ behind-open Standard s at q h e = go (minutes .more s at) refl (minutes .reads s
     minutes = minuteSecondMillisecond Standard true
 
     go : (m : Bool) → minutes .more s at ≡ m → (f : Found Clock) → minutes .reads s at ≡ f → or m (and (failed f) (timeFraction Hour true 0 0 .more s at)) ≡ true → orElse f (timeFraction Hour true 0 0 .reads s at) ≡ stop q → ⊥
-    go true em no ef h e = no≢stop (rw (no-fraction Hour true 0 0 s at (minute-no-mark Standard true s at em ef)) at e)
-    go false em no ef h e = fraction-open Hour 0 0 s at q h e
+    go true em no ef h e = no≢stop (rw (no-point Hour true 0 0 s at (minute-no-mark Standard true s at em ef)) at e)
+    go false em no ef h e = point-open Hour 0 0 s at q h e
     go true em (stop x) ef h e = minute-open Standard s at x em ef
     go false em (stop x) ef h e = true≢false (sym h)
     go m em (got c n) ef h e = stop≢got (sym e)

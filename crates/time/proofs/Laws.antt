@@ -26,10 +26,10 @@ use Rattle.parser.proofs.Lawful.{byte, Outside, outside-digit, lawful-begins, T
 use Rattle.parser.proofs.Items.{lit-mark, either-mark, after-item, preceded-item, field-item, fraction-item}
 use Rattle.offset.proofs.Laws.{offset-item}
 use Rattle.time.specs.declared.Clock.{Clock}
-use Rattle.time.specs.declared.Smallest.{Smallest}
-use Rattle.time.specs.declared.Smallest.the-variants.{Hour}
-use Rattle.time.specs.Rules.{hourOf, endsDay, orWhole, smallestOf, timeFraction, millisecond, secondMillisecond, minuteSecondMillisecond, behindHour, timeOffset, afterHour, baseTime, time}
-use Rattle.time.proofs.Unmarked.{no-fraction}
+use Rattle.time.specs.declared.TimeUnit.{TimeUnit}
+use Rattle.time.specs.declared.TimeUnit.the-variants.{Hour}
+use Rattle.time.specs.Rules.{hourOf, endsDay, orWhole, unitOf, timeFraction, millisecond, secondMillisecond, minuteSecondMillisecond, behindHour, timeOffset, afterHour, baseTime, time}
+use Rattle.time.proofs.Unmarked.{mark-fails, no-point}
 use Rattle.time.proofs.EndOfDay.{zeroField, after-hour-stricter, after-hour-valued}
 
 -- what a time takes beside digits: `T`, `:`, `,`, `.`, and what an offset takes, `+`, `-`, `:` and `Z`
@@ -38,13 +38,13 @@ bytes = 84 ∷ 58 ∷ 44 ∷ 46 ∷ 43 ∷ 45 ∷ 90 ∷ []
 
 -- ---- behind any hour but one that ends the day
 
-point-item : (u : Smallest) (mi se : ℕ) → Item bytes (byte 44) 2 2 Anything (timeFraction u false mi se)
+point-item : (u : TimeUnit) (mi se : ℕ) → Item bytes (byte 44) 2 2 Anything (timeFraction u false mi se)
 unfolding timeFraction
 point-item u mi se = map-item _ (after-item (either-mark 44 46 refl refl) (λ _. fraction-item))
 
 second-tail : (r : Reading) (mi : ℕ) → Tail bytes 2 (secondMillisecond r false mi)
 unfolding secondMillisecond millisecond
-second-tail r mi = seq-tail (opt-tail (preceded-item 58 refl refl (field-item 2 0 60 refl))) (λ se. map-tail _ (opt-tail (point-item (smallestOf r se) mi (orZero se))))
+second-tail r mi = seq-tail (opt-tail (preceded-item 58 refl refl (field-item 2 0 60 refl))) (λ se. map-tail _ (opt-tail (point-item (unitOf r se) mi (orZero se))))
 
 minute-item : (r : Reading) → Item bytes isDigit 2 2 Anything (minuteSecondMillisecond r false)
 unfolding minuteSecondMillisecond
@@ -68,7 +68,7 @@ after-hour-tail r h = seq-tail (opt-tail (behind-item r)) (λ k. offset-tail h (
 zero-steady : (hi : ℕ) → Steady (Outside bytes) (field 2 0 hi) → Steady (Outside bytes) (zeroField hi)
 zero-steady hi h = seq-steady (opt-steady (lit-mark {l = bytes} 58 refl .item .lawful .steady)) (λ _. must-steady _ 1 h)
 
-point-steady : (u : Smallest) (mi se : ℕ) → Steady (Outside bytes) (timeFraction u true mi se)
+point-steady : (u : TimeUnit) (mi se : ℕ) → Steady (Outside bytes) (timeFraction u true mi se)
 unfolding timeFraction
 point-steady u mi se = map-steady _ (seq-steady (either-mark {l = bytes} 44 46 refl refl .item .lawful .steady) (λ _. run-steady fractionOf (most-growing 0) 1 (outside-digit bytes)))
 
@@ -77,7 +77,7 @@ unfolding minuteSecondMillisecond secondMillisecond millisecond
 minute-steady r =
     seq-steady (zero-steady 59 (field-item {l = bytes} 2 0 59 refl .lawful .steady)) (λ mi.
     seq-steady (opt-steady (zero-steady 60 (field-item {l = bytes} 2 0 60 refl .lawful .steady))) (λ se.
-    map-steady _ (opt-steady (point-steady (smallestOf r se) mi (orZero se)))))
+    map-steady _ (opt-steady (point-steady (unitOf r se) mi (orZero se)))))
 
 behind-steady : (r : Reading) → Steady (Outside bytes) (behindHour r true)
 unfolding behindHour
@@ -91,7 +91,7 @@ minute-fails r s at h = rw (lit-fails 58 s at h, must-fails (λ v. eqb v 0) 1 (f
 behind-fails : (r : Reading) → Fails (behindHour r true)
 unfolding behindHour
 behind-fails Old = minute-fails Old
-behind-fails Standard = alt-fails (minuteSecondMillisecond Standard true) (timeFraction Hour true 0 0) (minute-fails Standard) (λ s at h. no-fraction Hour true 0 0 s at (either-mark {l = bytes} 44 46 refl refl .item .fails s at h))
+behind-fails Standard = alt-fails (minuteSecondMillisecond Standard true) (timeFraction Hour true 0 0) (minute-fails Standard) (λ s at h. no-point Hour true 0 0 s at (mark-fails s at h))
 
 end-of-day-tail : {W : Type 0} → W → (r : Reading) (h : ℕ) → TailOr W Unit bytes 3 Anything (afterHour r true h)
 unfolding afterHour

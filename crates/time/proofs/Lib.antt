@@ -1,3 +1,4 @@
+pub mod Sum
 pub mod Unmarked
 pub mod Behind
 pub mod EndOfDay

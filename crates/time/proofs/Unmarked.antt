@@ -1,6 +1,6 @@
 -- Where a minute or a second is still open neither a comma nor a point stands; so behind an hour no two things are read at one place.
 use Prim.Native.Nat.{ℕ}
-use mathlib.Core.List.{List}
+use mathlib.Core.List.{List, [], _∷_}
 use mathlib.Core.Bool.{Bool, true, false}
 use mathlib.Core.Option.{some, none}
 use mathlib.Core.Path.{_≡_, refl, sym, _∙_}
@@ -12,13 +12,21 @@ use Rattle.parser.specs.Reading.{Found, no, got, stop, Reader, lit, seq, after,
 use Rattle.parser.specs.Digits.{isDigit, field, digitsMore}
 use Rattle.parser.specs.Fields.{minute, second, either, precededBy}
 use Rattle.parser.proofs.Fields.{true≢false}
-use Rattle.parser.proofs.Places.{no≢got}
+use Rattle.parser.proofs.Places.{no≢got, Fails}
+use Rattle.parser.proofs.Hopeful.{AtEnd}
+use Rattle.parser.proofs.Items.{either-mark}
 use Rattle.parser.proofs.Unstopped.{no≢stop}
-use Rattle.time.specs.declared.Smallest.{Smallest}
-use Rattle.time.specs.Rules.{zeroIf, orWhole, smallestOf, timeFraction, millisecond, secondMillisecond, minuteSecondMillisecond}
+use Rattle.time.specs.declared.TimeUnit.{TimeUnit}
+use Rattle.time.specs.Rules.{zeroIf, orWhole, unitOf, timeFraction, millisecond, secondMillisecond, minuteSecondMillisecond}
 
 abbrev pub mark : Reader Unit
 mark = either 44 46
+
+pub mark-at-end : AtEnd mark
+mark-at-end = either-mark {l = 44 ∷ 46 ∷ []} 44 46 refl refl .at-end
+
+pub mark-fails : Fails mark
+mark-fails = either-mark {l = 44 ∷ 46 ∷ []} 44 46 refl refl .item .fails
 
 -- where a comma or point stands no number is open
 marked-settled : (hi : ℕ) (s : List ℕ) (at : ℕ) (b : ℕ) → ltb at (length s) ≡ true → getD s at 0 ≡ b → isDigit b ≡ false → eqb b 58 ≡ false → precededBy 58 (field 2 0 hi) .more s at ≡ false
@@ -42,9 +50,9 @@ zero-no-mark false hi s at h = no-mark hi s at h
 zero-no-mark true hi s at h = no-mark hi s at h
 
 -- and there no fraction is read
-pub no-fraction : (u : Smallest) (z : Bool) (mi se : ℕ) (s : List ℕ) (at : ℕ) → mark .reads s at ≡ no → timeFraction u z mi se .reads s at ≡ no
+pub no-point : (u : TimeUnit) (z : Bool) (mi se : ℕ) (s : List ℕ) (at : ℕ) → mark .reads s at ≡ no → timeFraction u z mi se .reads s at ≡ no
 unfolding timeFraction map seq
-no-fraction u z mi se s at e = rw e
+no-point u z mi se s at e = rw e
 
 -- ---- what may be absent is no failure: so a minute that is there is read, or what follows it stops the reading
 
@@ -62,13 +70,13 @@ second-some : (r : Reading) (z : Bool) (mi : ℕ) (s : List ℕ) (at : ℕ) → 
 unfolding secondMillisecond millisecond seq opt map
 second-some r z mi s at e = go (precededBy 58 (zeroIf z second) .reads s at) refl
   where
-    behind : (o : Smallest) (se n : ℕ) → millisecond o z mi se .reads s n ≡ no → ⊥
+    behind : (o : TimeUnit) (se n : ℕ) → millisecond o z mi se .reads s n ≡ no → ⊥
     behind o se n e = map-some (orWhole mi se) (lack n (timeFraction o z mi se .reads s n)) (lack-some n (timeFraction o z mi se .reads s n)) e
 
     go : (f : Found ℕ) → precededBy 58 (zeroIf z second) .reads s at ≡ f → ⊥
-    go no ef = behind (smallestOf r none) 0 at (rw ef at e)
+    go no ef = behind (unitOf r none) 0 at (rw ef at e)
     go (stop q) ef = no≢stop (sym (rw ef at e))
-    go (got se n) ef = behind (smallestOf r (some se)) se n (rw ef at e)
+    go (got se n) ef = behind (unitOf r (some se)) se n (rw ef at e)
 
 pub minute-no-mark : (r : Reading) (z : Bool) (s : List ℕ) (at : ℕ) → minuteSecondMillisecond r z .more s at ≡ true → minuteSecondMillisecond r z .reads s at ≡ no → mark .reads s at ≡ no
 unfolding minuteSecondMillisecond seq

@@ -21,8 +21,8 @@ use Rattle.parser.specs.Digits.{field, any, atMost, runAs, fractionOf}
 use Rattle.parser.specs.Fields.{hour, minute, second, either, precededBy, orZero}
 use Rattle.offset.specs.Rules.{offset}
 use Rattle.time.specs.declared.Clock.{Clock}
-use Rattle.time.specs.declared.Smallest.{Smallest}
-use Rattle.time.specs.declared.Smallest.the-variants.{Hour, Minute, Second}
+use Rattle.time.specs.declared.TimeUnit.{TimeUnit}
+use Rattle.time.specs.declared.TimeUnit.the-variants.{Hour, Minute, Second}
 
 -- "ISO 8601:2004 writes the end of a day as `24:00`": the hours of each edition, and the one that ends the day. "An offset's hour stays 00 to
 -- 23": its rule has no edition.
@@ -39,7 +39,7 @@ abbrev pub zeroIf : Bool → Reader ℕ → Reader ℕ
 zeroIf false p = p
 zeroIf true p = must (λ v. eqb v 0) 1 p
 
--- "and every fraction digit written is 0, dropped digits too"
+-- "and every fraction digit written is 0, dropped digits too". "In the 2004 edition hour 24 again wants all digits 0": in both readings
 abbrev pub numbersIf : Bool → ℕ → Bool
 numbersIf false = any
 numbersIf true = atMost 0
@@ -58,12 +58,12 @@ abbrev pub orWhole : ℕ → ℕ → Option Clock → Clock
 orWhole mi se none = wholeClock mi se
 orWhole mi se (some c) = c
 
--- "It counts as a fraction of a second even where no second was written." In the standard reading "ISO 8601 attaches the fraction to the
+-- "It counts as a fraction of a second even where no second was written." In the standard reading: "ISO 8601 attaches the fraction to the
 -- smallest unit written"
-abbrev pub smallestOf : Reading → Option ℕ → Smallest
-smallestOf Old se = Second
-smallestOf Standard none = Minute
-smallestOf Standard (some se) = Second
+abbrev pub unitOf : Reading → Option ℕ → TimeUnit
+unitOf Old se = Second
+unitOf Standard none = Minute
+unitOf Standard (some se) = Second
 
 -- "The stored digit count is then 0 if the nanosecond is 0, else 9."
 abbrev pub digitsCounted : ℕ → ℕ
@@ -78,22 +78,22 @@ sumOf mi n = record {
 }
 
 -- "The fraction is cut or padded to nine digits, then counted as that many times 60 nanoseconds after a minute, or 3,600 after an hour"
-abbrev pub clockOf : Smallest → ℕ → ℕ → Fraction → Clock
+abbrev pub clockOf : TimeUnit → ℕ → ℕ → Fraction → Clock
 clockOf Second mi se f = record { minute = mi; second = se; fraction = f }
 clockOf Minute mi se f = sumOf mi (60 * f .nanosecond)
 clockOf Hour mi se f = sumOf mi (3600 * f .nanosecond)
 
 -- "comma or point, one or more digits"
-unfoldable pub timeFraction : Smallest → Bool → ℕ → ℕ → Reader Clock
+unfoldable pub timeFraction : TimeUnit → Bool → ℕ → ℕ → Reader Clock
 timeFraction u z mi se = map (clockOf u mi se) (seq (either 44 46) (λ _. fractionIf z))
 
 -- "optionally" these
-unfoldable pub millisecond : Smallest → Bool → ℕ → ℕ → Reader Clock
+unfoldable pub millisecond : TimeUnit → Bool → ℕ → ℕ → Reader Clock
 millisecond u z mi se = map (orWhole mi se) (opt (timeFraction u z mi se))
 
 -- "optionally {optional colon, second 00 to 60}"
 unfoldable pub secondMillisecond : Reading → Bool → ℕ → Reader Clock
-secondMillisecond r z mi = seq (opt (precededBy 58 (zeroIf z second))) (λ se. millisecond (smallestOf r se) z mi (orZero se))
+secondMillisecond r z mi = seq (opt (precededBy 58 (zeroIf z second))) (λ se. millisecond (unitOf r se) z mi (orZero se))
 
 -- "optional colon, minute 00 to 59", and these
 unfoldable pub minuteSecondMillisecond : Reading → Bool → Reader Clock

@@ -2,14 +2,15 @@
 ghost use mathlib.Core.Path.{_≡_};
 ghost use mathlib.Core.Bool.{true, not};
 ghost use mathlib.Core.Option.{none};
-ghost use Prim.Native.Nat.{_*_, _≤_};
+ghost use Prim.Native.Nat.{_≤_};
 ghost use lib.Dec.{eqb};
 ghost use Rattle.parser.specs.Reading.{Says, SaysOn, no, got, and};
 ghost use Rattle.parser.specs.Fields.{either};
 ghost use Rattle.fields.specs.Read.{numberFound, numberRead, numberMore};
 ghost use Rattle.runs.specs.Read.{fractionFound, runMore};
-ghost use Rattle.time.specs.Rules.{hourOf, endsDay, fractionIf, wholeClock, smallestOf, digitsCounted, sumOf, clockOf, timeOf, timeFraction, millisecond, secondMillisecond, minuteSecondMillisecond, behindHour, timeOffset, afterHour, baseTime, time};
+ghost use Rattle.time.specs.Rules.{hourOf, endsDay, fractionIf, wholeClock, unitOf, digitsCounted, sumOf, clockOf, timeOf, timeFraction, millisecond, secondMillisecond, minuteSecondMillisecond, behindHour, timeOffset, afterHour, baseTime, time};
 ghost use Rattle.time.specs.Answer.{clockFound, clockMore, timeFound, timeMore};
+ghost use Rattle.time.specs.declared.TimeUnit.the-variants.{Second};
 use fields::Number;
 use offset::OffsetFound;
 use parser::Mark;
@@ -40,8 +41,8 @@ impl Clock {
     };
 }
 
-// The smallest unit that was written, of which a fraction is one.
-pub enum Smallest {
+// What a fraction is a fraction of.
+pub enum TimeUnit {
     Hour,
     Minute,
     Second,
@@ -114,44 +115,51 @@ fn sum_of(minute: u32, all: u64) -> Clock
     ensures { λ r. ⌜ r ≡ sumOf minute all ⌝ }
 {
     let nanosecond = (all % 1000000000) as u32;
-    let fraction = Fraction {
+    let left = Fraction {
         nanosecond,
         digits: digits_counted(nanosecond),
     };
     Clock {
         minute: minute + ((all / 60000000000) as u32),
         second: (all / 1000000000 % 60) as u32,
+        fraction: left,
+    }
+}
+
+// A clock with a fraction of a second, as it was written.
+fn clock_with(minute: u32, second: u32, fraction: Fraction) -> Clock
+    ensures { λ r. ⌜ r ≡ clockOf Second minute second fraction ⌝ }
+{
+    Clock {
+        minute,
+        second,
         fraction,
     }
 }
 
-// A clock with a fraction of the smallest unit that was written.
-fn clock_of(smallest: Smallest, minute: u32, second: u32, fraction: Fraction) -> Clock
+// A clock with a fraction of the unit.
+fn clock_of(unit: TimeUnit, minute: u32, second: u32, fraction: Fraction) -> Clock
     requires { ⌜ minute ≤ 59 ⌝ }
-    ensures { λ r. ⌜ r ≡ clockOf smallest minute second fraction ⌝ }
+    ensures { λ r. ⌜ r ≡ clockOf unit minute second fraction ⌝ }
 {
-    match smallest {
-        Smallest::Hour => sum_of(minute, 3600 * (fraction.nanosecond as u64)),
-        Smallest::Minute => sum_of(minute, 60 * (fraction.nanosecond as u64)),
-        Smallest::Second => Clock {
-            minute,
-            second,
-            fraction,
-        },
+    match unit {
+        TimeUnit::Hour => sum_of(minute, 3600 * (fraction.nanosecond as u64)),
+        TimeUnit::Minute => sum_of(minute, 60 * (fraction.nanosecond as u64)),
+        TimeUnit::Second => clock_with(minute, second, fraction),
     }
 }
 
-// (,|.)(m*), a fraction of the smallest unit that was written
+// (,|.)(m*), a fraction of the unit
 fn time_fraction(
     s: &[u8],
     at: usize,
-    smallest: Smallest,
+    unit: TimeUnit,
     minute: u32,
     second: u32,
     zero: bool,
 ) -> ClockFound
     requires { ⌜ minute ≤ 59 ⌝ }
-    ensures { λ r. ⌜ Says (timeFraction smallest zero minute second) (now (s .entry)) at (clockFound r) (clockMore r) ⌝ }
+    ensures { λ r. ⌜ Says (timeFraction unit zero minute second) (now (s .entry)) at (clockFound r) (clockMore r) ⌝ }
 {
     let mark = parser::one_of(s, at, 44, 46);
     match mark {
@@ -161,7 +169,7 @@ fn time_fraction(
                 Run::Got { value, next, more } => {
                     let kept = runs::fraction_of(value, next - from);
                     ClockFound::Got {
-                        value: clock_of(smallest, minute, second, kept),
+                        value: clock_of(unit, minute, second, kept),
                         next,
                         more,
                     }
@@ -196,7 +204,7 @@ fn whole_clock(minute: u32, second: u32, next: usize, more: bool) -> ClockFound
 fn time_millisecond(
     s: &[u8],
     at: usize,
-    smallest: Smallest,
+    unit: TimeUnit,
     minute: u32,
     second: u32,
     more: bool,
@@ -204,9 +212,9 @@ fn time_millisecond(
 ) -> ClockFound
     requires { ⌜ minute ≤ 59 ⌝ }
     requires { ⌜ (more ≡ true → either 44 46 .reads (now s) at ≡ no) ⌝ }
-    ensures { λ r. ⌜ SaysOn more (millisecond smallest zero minute second) (now (s .entry)) at (clockFound r) (clockMore r) ⌝ }
+    ensures { λ r. ⌜ SaysOn more (millisecond unit zero minute second) (now (s .entry)) at (clockFound r) (clockMore r) ⌝ }
 {
-    let found = time_fraction(s, at, smallest, minute, second, zero);
+    let found = time_fraction(s, at, unit, minute, second, zero);
     match found {
         ClockFound::Got {
             value,
@@ -223,16 +231,16 @@ fn time_millisecond(
     }
 }
 
-// The smallest unit behind a minute, by the second that was looked for.
-fn smallest_of(reading: Reading, second: Number) -> Smallest
-    ensures { λ r. ⌜ r ≡ smallestOf reading (numberRead second) ⌝ }
+// What a fraction behind a minute is one of, by the second that was looked for.
+fn unit_of(reading: Reading, second: Number) -> TimeUnit
+    ensures { λ r. ⌜ r ≡ unitOf reading (numberRead second) ⌝ }
 {
     match reading {
-        Reading::Old => Smallest::Second,
+        Reading::Old => TimeUnit::Second,
         Reading::Standard => match second {
-            Number::Got { value: _, next: _ } => Smallest::Second,
-            Number::Wrong => Smallest::Minute,
-            Number::Cut => Smallest::Minute,
+            Number::Got { value: _, next: _ } => TimeUnit::Second,
+            Number::Wrong => TimeUnit::Minute,
+            Number::Cut => TimeUnit::Minute,
         },
     }
 }
@@ -249,7 +257,7 @@ fn time_second_millisecond(
     ensures { λ r. ⌜ Says (secondMillisecond reading zero minute) (now (s .entry)) at (clockFound r) (clockMore r) ⌝ }
 {
     let found = fields::after_colon(s, at, 60);
-    let smallest = smallest_of(reading, found);
+    let unit = unit_of(reading, found);
     let second = fields::or_left_out(at, found);
     if stops(zero, second.value) {
         return ClockFound::Stopped;
@@ -257,7 +265,7 @@ fn time_second_millisecond(
     time_millisecond(
         s,
         second.next,
-        smallest,
+        unit,
         minute,
         second.value,
         second.more,
@@ -297,7 +305,7 @@ fn time_behind_hour(s: &[u8], at: usize, zero: bool, reading: Reading) -> ClockF
         ClockFound::Stopped => ClockFound::Stopped,
         ClockFound::Wrong => match reading {
             Reading::Old => ClockFound::Wrong,
-            Reading::Standard => time_fraction(s, at, Smallest::Hour, 0, 0, zero),
+            Reading::Standard => time_fraction(s, at, TimeUnit::Hour, 0, 0, zero),
         },
         ClockFound::Cut => ClockFound::Cut,
     }
@@ -374,7 +382,7 @@ fn time_hour(s: &[u8], at: usize, choices: Choices) -> Number
     }
 }
 
-// HH[[:]MM[[:]SS][(,|.)(m*)]][(Z|+...|-...)]
+// HH[[:]MM[[:]SS][(,|.)(m*)]][(Z|+...|-...)]; in the standard reading also HH(,|.)(m*)[(Z|+...|-...)]
 pub fn base_time(s: &[u8], at: usize, choices: Choices) -> TimeFound
     ensures { λ r. ⌜ Says (baseTime choices) (now (s .entry)) at (timeFound r) (timeMore r) ⌝ }
 {

@@ -26,13 +26,13 @@ use Rattle.parser.proofs.Runs.{AllDigits, none as no-digit, also, run-digits, z
 use Rattle.runs.proofs.Nanoseconds.{nanoseconds-small}
 use Rattle.offset.specs.Rules.{offset}
 use Rattle.time.specs.declared.Clock.{Clock}
-use Rattle.time.specs.declared.Smallest.{Smallest}
-use Rattle.time.specs.declared.Smallest.the-variants.{Hour, Minute, Second}
-use Rattle.time.specs.Rules.{hourOf, endsDay, zeroIf, numbersIf, fractionIf, noFraction, orWhole, smallestOf, digitsCounted, sumOf, clockOf, timeFraction, millisecond, secondMillisecond, minuteSecondMillisecond, behindHour, timeOf, timeOffset, afterHour, baseTime, time}
+use Rattle.time.specs.declared.TimeUnit.{TimeUnit}
+use Rattle.time.specs.declared.TimeUnit.the-variants.{Hour, Minute, Second}
+use Rattle.time.specs.Rules.{hourOf, endsDay, zeroIf, numbersIf, fractionIf, noFraction, orWhole, unitOf, clockOf, timeFraction, millisecond, secondMillisecond, minuteSecondMillisecond, behindHour, timeOf, timeOffset, afterHour, baseTime, time}
 use Rattle.writing.specs.Spelling.{padded, fractionSpelling}
 use Rattle.writing.specs.Writing.{Readable}
 use Rattle.writing.proofs.Digits.{length-padded, number-padded, padded-digits}
-use Rattle.writing.proofs.Yields.{SeqFound, seq-found, map-found, OptFound, absent, there, opt-found, alt-found}
+use Rattle.writing.proofs.Yields.{seq-found, map-found, OptFound, absent, there, opt-found, alt-found}
 use Rattle.time_writer.specs.Ranges.{fractionGiven}
 use Rattle.time_writer.proofs.Laws.{time-within, time-spells}
 
@@ -84,12 +84,12 @@ fraction-kept l some-digit = go (ltb 9 (length d)) refl
     go true e = rw e (first 9 (omega arith) (omega (arith, ltb-true 9 (length d) e)) (omega arith))
     go false e = let few = ltb-false 9 (length d) e in rw e (first (length d) few (omega arith) some-digit ∙ ap (_∷_ 46) (take-all (length d) d (omega arith) ∙ sym (take-all 9 d few)))
 
--- what a clock has of the text at a place, with a fraction of this unit: a comma or point and digits stand there and are read, or nothing is;
--- or they are counted, and then all nine digits are stored, or none
-pub data Keeps (u : Smallest) (s : List ℕ) (at : ℕ) (c : Clock) (n : ℕ) : Type 0 where
-  nothing : at ≡ n → noFraction ≡ c .fraction → Keeps u s at c n
-  digits-at : either 44 46 .reads s at ≡ got tt (at + 1) → at + 1 + length (runAt s (at + 1)) ≡ n → fractionSpelling (c .fraction .digits) (c .fraction .nanosecond) ≡ 46 ∷ take 9 (runAt s (at + 1)) → Keeps u s at c n
-  counted : (u ≡ Second → ⊥) → digitsCounted (c .fraction .nanosecond) ≡ c .fraction .digits → Keeps u s at c n
+-- what a clock has of the text at a place, with a fraction of this unit behind a minute and a second: nothing; or a comma or point and digits
+-- stand there and are read, and the fraction is these; or they are counted
+pub data Keeps (u : TimeUnit) (mi se : ℕ) (s : List ℕ) (at : ℕ) (c : Clock) (n : ℕ) : Type 0 where
+  nothing : at ≡ n → noFraction ≡ c .fraction → Keeps u mi se s at c n
+  digits-at : either 44 46 .reads s at ≡ got tt (at + 1) → at + 1 + length (runAt s (at + 1)) ≡ n → fractionSpelling (c .fraction .digits) (c .fraction .nanosecond) ≡ 46 ∷ take 9 (runAt s (at + 1)) → Keeps u mi se s at c n
+  counted : (u ≡ Second → ⊥) → either 44 46 .reads s at ≡ got tt (at + 1) → at + 1 + length (runAt s (at + 1)) ≡ n → clockOf u mi se (fractionOf (runAt s (at + 1))) ≡ c → Keeps u mi se s at c n
 
 point-place : (s : List ℕ) (at : ℕ) (u : Unit) (m : ℕ) → either 44 46 .reads s at ≡ got u m → at + 1 ≡ m
 unfolding alt lit
@@ -118,49 +118,57 @@ run-of z s at f n e = go (runAt s at) refl e
         some true e = record { some-digit = rw i (omega arith); is = rw i (got-value e); ends = rw i (got-place e) }
         some false e = absurd (stop≢got e)
 
-hour-not-second : _≡_ {A = Smallest} Hour Second → ⊥
+hour-not-second : _≡_ {A = TimeUnit} Hour Second → ⊥
 hour-not-second e = let z : _≡_ {A = ℕ} 0 1 = cc in omega arith
 
-minute-not-second : _≡_ {A = Smallest} Minute Second → ⊥
+minute-not-second : _≡_ {A = TimeUnit} Minute Second → ⊥
 minute-not-second e = let z : _≡_ {A = ℕ} 0 1 = cc in omega arith
 
-point-kept : (u : Smallest) (z : Bool) (mi se : ℕ) (s : List ℕ) (at : ℕ) (c : Clock) (n : ℕ) → timeFraction u z mi se .reads s at ≡ got c n → Keeps u s at c n
-unfolding timeFraction sumOf
+point-kept : (u : TimeUnit) (z : Bool) (mi se : ℕ) (s : List ℕ) (at : ℕ) (c : Clock) (n : ℕ) → timeFraction u z mi se .reads s at ≡ got c n → Keeps u mi se s at c n
+unfolding timeFraction
 point-kept u z mi se s at c n e =
     let m = map-found (clockOf u mi se) (seq (either 44 46) (λ _. fractionIf z)) s at c n e in
-    rw (← m .is) (go u (m .value) (seq-found (either 44 46) (λ _. fractionIf z) s at (m .value) n (m .reads)))
+    let x = seq-found (either 44 46) (λ _. fractionIf z) s at (m .value) n (m .reads) in
+    let p = point-place s at (x .value) (x .place) (x .first) in
+    let d = run-of z s (at + 1) (m .value) n (rw (← p) at (x .rest)) in
+    rw (← m .is, ← d .is) (go u (rw (← p) at (x .first)) (d .ends) (d .some-digit))
   where
-    go : (u : Smallest) (f : Fraction) → SeqFound (either 44 46) (λ _. fractionIf z) s at f n → Keeps u s at (clockOf u mi se f) n
-    go Hour f x = counted hour-not-second refl
-    go Minute f x = counted minute-not-second refl
-    go Second f x =
-        let p = point-place s at (x .value) (x .place) (x .first) in
-        let d = run-of z s (at + 1) f n (rw (← p) at (x .rest)) in
-        digits-at (rw (← p) at (x .first)) (d .ends) (rw (← d .is) (fraction-kept (drop (at + 1) s) (d .some-digit)))
+    go : (u : TimeUnit) → either 44 46 .reads s at ≡ got tt (at + 1) → at + 1 + length (runAt s (at + 1)) ≡ n → 0 < length (runAt s (at + 1)) → Keeps u mi se s at (clockOf u mi se (fractionOf (runAt s (at + 1)))) n
+    go Hour point ends some-digit = counted hour-not-second point ends refl
+    go Minute point ends some-digit = counted minute-not-second point ends refl
+    go Second point ends some-digit = digits-at point ends (fraction-kept (drop (at + 1) s) some-digit)
 
-pub kept : (u : Smallest) (z : Bool) (mi se : ℕ) (s : List ℕ) (at : ℕ) (c : Clock) (n : ℕ) → millisecond u z mi se .reads s at ≡ got c n → Keeps u s at c n
+pub kept : (u : TimeUnit) (z : Bool) (mi se : ℕ) (s : List ℕ) (at : ℕ) (c : Clock) (n : ℕ) → millisecond u z mi se .reads s at ≡ got c n → Keeps u mi se s at c n
 unfolding millisecond
 kept u z mi se s at c n e =
     let m = map-found (orWhole mi se) (opt (timeFraction u z mi se)) s at c n e in
     rw (← m .is) (go (m .value) (opt-found (timeFraction u z mi se) s at (m .value) n (m .reads)))
   where
-    go : (o : Option Clock) → OptFound (timeFraction u z mi se) s at o n → Keeps u s at (orWhole mi se o) n
+    go : (o : Option Clock) → OptFound (timeFraction u z mi se) s at o n → Keeps u mi se s at (orWhole mi se o) n
     go o (absent eo here) = rw (← eo) (nothing here refl)
     go o (there k eo r) = rw (← eo) (point-kept u z mi se s at k n r)
 
--- the fraction of a time that was read: the text has a comma or point somewhere, and the fraction is written as a point and the first nine
--- digits behind it; or it is written as nothing; or, in the standard reading alone, it was counted, and has all nine digits or none
+abbrev clockIn : Time → Clock
+clockIn t = record { minute = t .minute; second = t .second; fraction = record { nanosecond = t .nanosecond; digits = t .digits } }
+
+-- the fraction of a time that was read: it is written as nothing; or the text has a comma or point somewhere, and the fraction is written as a
+-- point and the first nine digits behind it; or, in the standard reading alone, these digits were counted, as a fraction of a minute or an hour
 pub data TextsOwn (r : Reading) (s : List ℕ) (t : Time) : Type 0 where
   without : fractionSpelling (t .digits) (t .nanosecond) ≡ [] → TextsOwn r s t
   from : (at : ℕ) → either 44 46 .reads s at ≡ got tt (at + 1) → fractionSpelling (t .digits) (t .nanosecond) ≡ 46 ∷ take 9 (runAt s (at + 1)) → TextsOwn r s t
-  counted : r ≡ Standard → digitsCounted (t .nanosecond) ≡ t .digits → TextsOwn r s t
+  counted : r ≡ Standard → (u : TimeUnit) → (u ≡ Second → ⊥) → (at mi se : ℕ) → either 44 46 .reads s at ≡ got tt (at + 1) → clockOf u mi se (fractionOf (runAt s (at + 1))) ≡ clockIn t → TextsOwn r s t
 
 no-fraction-own : (r : Reading) (s : List ℕ) (h : ℕ) (c : Clock) (o : Option Offset) → noFraction ≡ c .fraction → TextsOwn r s (timeOf h c o)
 unfolding fractionSpelling
 no-fraction-own r s h c o e = without (rw (← e))
 
+keeps-own : (r : Reading) (u : TimeUnit) (mi se : ℕ) (s : List ℕ) (at : ℕ) (c : Clock) (n : ℕ) (h : ℕ) (o : Option Offset) → ((u ≡ Second → ⊥) → r ≡ Standard) → Keeps u mi se s at c n → TextsOwn r s (timeOf h c o)
+keeps-own r u mi se s at c n h o standard (nothing here e) = no-fraction-own r s h c o e
+keeps-own r u mi se s at c n h o standard (digits-at point ends is) = from at point is
+keeps-own r u mi se s at c n h o standard (counted other point ends is) = counted (standard other) u other at mi se point is
+
 -- a fraction is of a second, or the reading is the standard one
-not-old : (r : Reading) (se : Option ℕ) → (smallestOf r se ≡ Second → ⊥) → r ≡ Standard
+not-old : (r : Reading) (se : Option ℕ) → (unitOf r se ≡ Second → ⊥) → r ≡ Standard
 not-old Old se h = absurd (h refl)
 not-old Standard se h = refl
 
@@ -168,27 +176,17 @@ clock-own : (r : Reading) (s : List ℕ) (z : Bool) (h : ℕ) (c : Clock) (o : O
 unfolding minuteSecondMillisecond secondMillisecond
 clock-own r s z h c o at n e =
     let x = seq-found (precededBy 58 (zeroIf z minute)) (secondMillisecond r z) s at c n e in
-    let y = seq-found (opt (precededBy 58 (zeroIf z second))) (λ se. millisecond (smallestOf r se) z (x .value) (orZero se)) s (x .place) c n (x .rest) in
-    go (y .value) (kept (smallestOf r (y .value)) z (x .value) (orZero (y .value)) s (y .place) c n (y .rest))
-  where
-    go : (se : Option ℕ) {p : ℕ} → Keeps (smallestOf r se) s p c n → TextsOwn r s (timeOf h c o)
-    go se (nothing here e) = no-fraction-own r s h c o e
-    go se {p} (digits-at point ends is) = from p point is
-    go se (counted other is) = counted (not-old r se other) is
+    let y = seq-found (opt (precededBy 58 (zeroIf z second))) (λ se. millisecond (unitOf r se) z (x .value) (orZero se)) s (x .place) c n (x .rest) in
+    keeps-own r (unitOf r (y .value)) (x .value) (orZero (y .value)) s (y .place) c n h o (not-old r (y .value)) (kept (unitOf r (y .value)) z (x .value) (orZero (y .value)) s (y .place) c n (y .rest))
 
 behind-own : (r : Reading) (s : List ℕ) (z : Bool) (h : ℕ) (c : Clock) (o : Option Offset) (at n : ℕ) → behindHour r z .reads s at ≡ got c n → TextsOwn r s (timeOf h c o)
 unfolding behindHour
 behind-own Old s z h c o at n e = clock-own Old s z h c o at n e
 behind-own Standard s z h c o at n e = go (alt-found (minuteSecondMillisecond Standard z) (timeFraction Hour z 0 0) s at c n e)
   where
-    hours : Keeps Hour s at c n → TextsOwn Standard s (timeOf h c o)
-    hours (nothing here e) = no-fraction-own Standard s h c o e
-    hours (digits-at point ends is) = from at point is
-    hours (counted other is) = counted refl is
-
     go : (minuteSecondMillisecond Standard z .reads s at ≡ got c n) ⊎ (timeFraction Hour z 0 0 .reads s at ≡ got c n) → TextsOwn Standard s (timeOf h c o)
     go (inl e) = clock-own Standard s z h c o at n e
-    go (inr e) = hours (point-kept Hour z 0 0 s at c n e)
+    go (inr e) = keeps-own Standard Hour 0 0 s at c n h o (λ other. refl) (point-kept Hour z 0 0 s at c n e)
 
 pub base-own : (c : Choices) (s : List ℕ) (at : ℕ) (t : Time) (n : ℕ) → baseTime c .reads s at ≡ got t n → TextsOwn (c .reading) s t
 unfolding baseTime afterHour timeOffset
@@ -204,7 +202,7 @@ base-own c s at t n e =
     go z h o k (absent e here) = rw (← e) (no-fraction-own (c .reading) s h (orWhole 0 0 none) o refl)
     go z h o k {from} {to} (there a e r) = rw (← e) (behind-own (c .reading) s z h a o from to r)
 
--- of every text that is read as a time, under every edition
+-- of every text that is read as a time, under every edition, in the reading that is named
 pub time-own : (c : Choices) (s : List ℕ) (at : ℕ) (t : Time) (n : ℕ) → time c .reads s at ≡ got t n → TextsOwn (c .reading) s t
 unfolding time
 time-own c s at t n e = let x = seq-found (opt (lit 84)) (λ _. baseTime c) s at t n e in base-own c s (x .place) t n (x .rest)

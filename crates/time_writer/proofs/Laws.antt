@@ -28,9 +28,9 @@ use Rattle.parser.proofs.Fields.{and-first, and-second}
 use Rattle.parser.proofs.Leaves.{From}
 use Rattle.offset.specs.Rules.{offset, offsetHour, offsetZulu}
 use Rattle.time.specs.declared.Clock.{Clock}
-use Rattle.time.specs.declared.Smallest.{Smallest}
-use Rattle.time.specs.declared.Smallest.the-variants.{Hour, Second}
-use Rattle.time.specs.Rules.{hourOf, endsDay, zeroIf, numbersIf, fractionIf, noFraction, orWhole, smallestOf, digitsCounted, sumOf, clockOf, timeFraction, millisecond, secondMillisecond, minuteSecondMillisecond, behindHour, orAbsent, timeOf, timeOffset, afterHour, baseTime, time}
+use Rattle.time.specs.declared.TimeUnit.{TimeUnit}
+use Rattle.time.specs.declared.TimeUnit.the-variants.{Hour, Minute, Second}
+use Rattle.time.specs.Rules.{hourOf, endsDay, zeroIf, numbersIf, fractionIf, noFraction, orWhole, unitOf, digitsCounted, sumOf, clockOf, timeFraction, millisecond, secondMillisecond, minuteSecondMillisecond, behindHour, orAbsent, timeOf, timeOffset, afterHour, baseTime, time}
 use Rattle.time.proofs.Behind.{of-second}
 use Rattle.writing.specs.Spelling.{padded, signByte, isMinus, isZulu, shiftSpelling, offsetSpelling, clockSpelling, fractionSpelling, timeOffsetSpelling, timeSpelling}
 use Rattle.writing.proofs.Texts.{ReadAs, Refuses, lit-reads, lit-refuses, lit-refuses-end, seq-reads, seq-refuses, map-reads, map-refuses, must-reads, opt-reads, opt-lacks, alt-first, alt-second, alt-refuses, whole}
@@ -197,7 +197,7 @@ unfolding baseTime afterHour timeSpelling clockSpelling
 base-reads c t e =
     let w = time-within c t e in
     let o = timeOffsetSpelling (t .offset) in
-    let same : timeSpelling t ≡ padded 2 (t .hour) ++ (((58 ∷ padded 2 (t .minute)) ++ ((58 ∷ padded 2 (t .second)) ++ fractionSpelling (t .digits) (t .nanosecond))) ++ o) = simp append-assoc in
+    let same : timeSpelling t ≡ padded 2 (t .hour) ++ (behindSpelling (t .minute) (t .second) (fractionIn t) ++ o) = simp append-assoc in
     rw same
     (seq-reads _ (hour-reads (c .edition) (t .hour) _ (w .hour))
     (seq-reads _ (opt-reads (behind-reads (c .reading) _ (t .minute) (t .second) (fractionIn t) _ (w .behind) (rw (append-nil o) (offset-behind (t .offset))))) (end-reads (t .hour) _ (t .offset) (w .offset))))
@@ -250,38 +250,45 @@ all-zero : (z : Bool) (times n : ℕ) → n ≤ upTo z 999999999 → times * n �
 all-zero true times n h = let e : n ≡ 0 = omega arith in rw e (omega arith)
 all-zero false times n h = omega arith
 
-point-yields : (u : Smallest) (z : Bool) (m s : ℕ) → ((f : Fraction) → FractionWithin z f → ClockWithin z (clockOf u m s f)) → Yields (ClockWithin z) (timeFraction u z m s)
+point-yields : (u : TimeUnit) (z : Bool) (m s : ℕ) → ((f : Fraction) → FractionWithin z f → ClockWithin z (clockOf u m s f)) → Yields (ClockWithin z) (timeFraction u z m s)
 unfolding timeFraction
-point-yields u z m s h = map-yields _ h (seq-yields _ (anything (either 44 46)) (λ u y. digits-yield z))
+point-yields u z m s h = map-yields _ h (seq-yields _ (anything (either 44 46)) (λ x y. digits-yield z))
 
 or-whole : (z : Bool) (m s : ℕ) → m ≤ upTo z 59 → s ≤ upTo z 60 → (c : Option Clock) → OrLeftOut (ClockWithin z) c → ClockWithin z (orWhole m s c)
 or-whole z m s hm hs none h = record { minute = hm; second = hs; fraction = no-fraction-within z }
 or-whole z m s hm hs (some c) h = h
+
+-- a fraction of the unit, behind an hour of no minutes or behind minutes
+counted-within : (u : TimeUnit) (z : Bool) (m s : ℕ) → m ≤ upTo z 59 → s ≤ upTo z 60 → (u ≡ Hour → m ≡ 0) → (f : Fraction) → FractionWithin z f → ClockWithin z (clockOf u m s f)
+counted-within Second z m s hm hs bare f w = record { minute = hm; second = hs; fraction = w }
+counted-within Minute z m s hm hs bare f w = sum-within z m (60 * f .nanosecond) (minutes z hm (w .nanosecond)) (all-zero z 60 (f .nanosecond) (w .nanosecond))
+  where
+    minutes : (z : Bool) → m ≤ upTo z 59 → f .nanosecond ≤ upTo z 999999999 → m + 60 * f .nanosecond / 60000000000 ≤ upTo z 59
+    minutes true hm hn = omega (arith, hm, hn)
+    minutes false hm hn = omega (arith, hm, hn)
+counted-within Hour z m s hm hs bare f w = sum-within z m (3600 * f .nanosecond) (minutes z (w .nanosecond)) (all-zero z 3600 (f .nanosecond) (w .nanosecond))
+  where
+    minutes : (z : Bool) → f .nanosecond ≤ upTo z 999999999 → m + 3600 * f .nanosecond / 60000000000 ≤ upTo z 59
+    minutes true hn = omega (arith, bare refl, hn)
+    minutes false hn = omega (arith, bare refl, hn)
+
+-- behind minutes it is none of an hour
+not-hour : (r : Reading) (s : Option ℕ) {n : ℕ} → unitOf r s ≡ Hour → n ≡ 0
+not-hour Old s e = let z : _≡_ {A = ℕ} 0 1 = cc in absurd (omega arith)
+not-hour Standard none e = let z : _≡_ {A = ℕ} 0 1 = cc in absurd (omega arith)
+not-hour Standard (some s) e = let z : _≡_ {A = ℕ} 0 1 = cc in absurd (omega arith)
 
 clock-yields : (r : Reading) (z : Bool) → Yields (ClockWithin z) (minuteSecondMillisecond r z)
 unfolding minuteSecondMillisecond secondMillisecond millisecond
 clock-yields r z =
     seq-yields _ (preceded-yields 58 (zero-yields z 59)) (λ m fm. seq-yields _ (opt-yields (preceded-yields 58 (zero-yields z 60))) (λ s fs.
     let hs = absent-within (upTo z 60) s fs in
-    map-yields _ (or-whole z m (orZero s) (fm .1) hs) (opt-yields (point-yields (smallestOf r s) z m (orZero s) (counted r s m (fm .1) hs)))))
-  where
-    counted : (r : Reading) (s : Option ℕ) (m : ℕ) → m ≤ upTo z 59 → orZero s ≤ upTo z 60 → (f : Fraction) → FractionWithin z f → ClockWithin z (clockOf (smallestOf r s) m (orZero s) f)
-    counted Old s m hm hs f w = record { minute = hm; second = hs; fraction = w }
-    counted Standard (some s) m hm hs f w = record { minute = hm; second = hs; fraction = w }
-    counted Standard none m hm hs f w = sum-within z m (60 * f .nanosecond) (minutes z hm (w .nanosecond)) (all-zero z 60 (f .nanosecond) (w .nanosecond))
-      where
-        minutes : (z : Bool) → m ≤ upTo z 59 → f .nanosecond ≤ upTo z 999999999 → m + 60 * f .nanosecond / 60000000000 ≤ upTo z 59
-        minutes true hm hn = omega (arith, hm, hn)
-        minutes false hm hn = omega (arith, hm, hn)
+    map-yields _ (or-whole z m (orZero s) (fm .1) hs) (opt-yields (point-yields (unitOf r s) z m (orZero s) (counted-within (unitOf r s) z m (orZero s) (fm .1) hs (not-hour r s))))))
 
 behind-yields : (r : Reading) (z : Bool) → Yields (ClockWithin z) (behindHour r z)
 unfolding behindHour
 behind-yields Old z = clock-yields Old z
-behind-yields Standard z = alt-yields (clock-yields Standard z) (point-yields Hour z 0 0 (λ f w. sum-within z 0 (3600 * f .nanosecond) (minutes z f (w .nanosecond)) (all-zero z 3600 (f .nanosecond) (w .nanosecond))))
-  where
-    minutes : (z : Bool) (f : Fraction) → f .nanosecond ≤ upTo z 999999999 → 0 + 3600 * f .nanosecond / 60000000000 ≤ upTo z 59
-    minutes true f hn = omega (arith, hn)
-    minutes false f hn = omega (arith, hn)
+behind-yields Standard z = alt-yields (clock-yields Standard z) (point-yields Hour z 0 0 (counted-within Hour z 0 0 (omega arith) (omega arith) (λ e. refl)))
 
 given-of : (k : Choices) (h : ℕ) (c : Clock) (o : Option Offset) → h ≤ lastHour (k .edition) → ClockWithin (endsDay (k .edition) h) c → OrLeftOut (λ o. offsetGiven o ≡ true) o → timeGiven k (timeOf h c o) ≡ true
 unfolding timeGiven clockGiven timeOffsetGiven

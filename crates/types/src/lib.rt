@@ -61,7 +61,7 @@ pub enum TimeOffset {
     Given(Offset),
 }
 
-// A fraction of a second, and how many of its digits were written, more than nine as 9.
+// A fraction in billionths, which are nanoseconds of a second, and how many of its digits were written, more than nine as 9.
 pub struct Fraction {
     pub nanosecond: u32,
     pub digits: u32,
@@ -75,7 +75,8 @@ impl Fraction {
     };
 }
 
-// A time of day. `digits`: how many digits of its fraction were written, more than nine as 9.
+// A time of day. `digits`: how many digits of its fraction were written, more than nine as 9; where a fraction of a minute or an hour was counted,
+// 9, or 0 if no nanosecond is left.
 pub struct Time {
     pub hour: u32,
     pub minute: u32,

@@ -53,8 +53,8 @@ kind-read k s r n e = of-kind k .fact s 0 r n e
 abbrev under : Edition → Reading → Choices
 under e r = record { edition = e; reading = r }
 
--- "What a standard reading gives can be written and is read back by the old reading and the standard one as the same record", and what the old
--- one gives too
+-- What a standard reading gives can be written, and is read back by the old reading and the standard one as the same record; so is what the old
+-- one gives.
 pub either-reading : (e : Edition) (r q : Reading) (v : Record) → Readable (ruleOf (kindOf (under e r) v)) v → Ended (ruleOf (kindOf (under e q) v)) (spelling v) (recorded v (length (spelling v)))
 unfolding timeGiven dateTimeGiven
 either-reading e r q (record-of.Date v) h = ends-as record-of.Date date (dateSpelling v) refl (read-back date-spells v (readable-back record-of.Date (λ a b e. cc) h))

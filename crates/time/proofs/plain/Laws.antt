@@ -33,12 +33,12 @@ use Rattle.looks.proofs.Thousandths.{milliseconds, three-end, three-other}
 use Rattle.offset.specs.Rules.{offset}
 use Rattle.offset.proofs.plain.Laws.{Starts, zulu, sign, end-says, plain-end, plain-read}
 use Rattle.time.specs.declared.Clock.{Clock}
-use Rattle.time.specs.declared.Smallest.the-variants.{Second}
-use Rattle.time.specs.Rules.{hourOf, endsDay, noFraction, orWhole, smallestOf, clockOf, timeFraction, millisecond, secondMillisecond, minuteSecondMillisecond, behindHour, timeOf, timeOffset, afterHour, baseTime, time}
+use Rattle.time.specs.declared.TimeUnit.the-variants.{Second}
+use Rattle.time.specs.Rules.{hourOf, endsDay, noFraction, orWhole, unitOf, timeFraction, millisecond, secondMillisecond, minuteSecondMillisecond, behindHour, timeOf, timeOffset, afterHour, baseTime, time}
 use Rattle.time.specs.Plain.{timeWith, withOffset, plainTime, firstPlain}
 use Rattle.time.specs.declared.plain.PlainTime.{PlainTime}
 use Rattle.time.specs.declared.plain.PlainTime.the-variants as time
-use Rattle.time.proofs.Behind.{of-second, behind-got}
+use Rattle.time.proofs.Behind.{of-second, behind-first}
 
 no-time : {t : Time} {n : ℕ} {m : Bool} → time.Other ≡ time.Got t n m → ⊥
 no-time e = let z : _≡_ {A = ℕ} 0 1 = cc in omega arith
@@ -87,9 +87,6 @@ module _ (s : List ℕ) (at mi se : ℕ) where
   abbrev point : Reader Fraction
   point = seq (either 44 46) (λ _. fraction)
 
-  abbrev written : Fraction → Clock
-  written = clockOf Second mi se
-
   no-point : (more : Bool) → Behind s at more → Says (either 44 46) s at no more
   unfolding alt lit
   no-point more (end l) = let i = le-ltb at (length s) l in record { found = simp i; more = simp i }
@@ -99,7 +96,7 @@ module _ (s : List ℕ) (at mi se : ℕ) where
 
   none-says : (more : Bool) → Behind s at more → Says (millisecond Second false mi se) s at (got (clockWith mi se noFraction) at) more
   unfolding millisecond timeFraction
-  none-says more b = says-map (opt (map written point)) s at (orWhole mi se) _ more (says-opt (map written point) s at no more (says-map point s at written no more (says-seq-no (either 44 46) s at (λ _. fraction) more (no-point more b))))
+  none-says more b = says-map (opt (map (clockWith mi se) point)) s at (orWhole mi se) _ more (says-opt (map (clockWith mi se) point) s at no more (says-map point s at (clockWith mi se) no more (says-seq-no (either 44 46) s at (λ _. fraction) more (no-point more b))))
 
   -- what was seen of a point and three digits
   record Point (ms : ℕ) : Type 0 where
@@ -150,8 +147,8 @@ module _ (s : List ℕ) (at mi se : ℕ) where
   some-says : (ms : ℕ) → Point ms → (more : Bool) → Behind s (at + 4) more → Says (millisecond Second false mi se) s at (got (clockWith mi se (milliseconds ms)) (at + 4)) more
   unfolding millisecond timeFraction
   some-says ms x more b =
-      says-map (opt (map written point)) s at (orWhole mi se) _ more
-      (says-opt (map written point) s at _ more (says-map point s at written _ more (says-seq-got (either 44 46) s at (λ _. fraction) tt (at + 1) false _ more (point-says x) (digits-say ms x more b))))
+      says-map (opt (map (clockWith mi se) point)) s at (orWhole mi se) _ more
+      (says-opt (map (clockWith mi se) point) s at _ more (says-map point s at (clockWith mi se) _ more (says-seq-got (either 44 46) s at (λ _. fraction) tt (at + 1) false _ more (point-says x) (digits-say ms x more b))))
 
 -- ---- the clock
 
@@ -236,9 +233,9 @@ module _ (s : List ℕ) (at h m x : ℕ) where
         (rw (no-end (c .edition))
         (says-seq-got (opt (behindHour r false)) s (at + 2) (λ c. timeOffset h (orWhole 0 0 c)) (some (clockWith m x n)) place more (got t next) more
         (says-opt (behindHour r false) s (at + 2) (got (clockWith m x n) place) more
-        (behind-got false s (at + 2) r (clockWith m x n) place more
+        (behind-first false s (at + 2) r (got (clockWith m x n) place) more refl
         (says-seq-got (precededBy 58 minute) s (at + 2) (secondMillisecond r false) m (at + 5) false (got (clockWith m x n) place) more minute-says
-        (says-seq-got (opt (precededBy 58 second)) s (at + 5) (λ se. millisecond (smallestOf r se) false m (orZero se)) (some x) (at + 8) false _ more (says-opt (precededBy 58 second) s (at + 5) _ false second-says) (rw (of-second r x) f)))))
+        (says-seq-got (opt (precededBy 58 second)) s (at + 5) (λ se. millisecond (unitOf r se) false m (orZero se)) (some x) (at + 8) false _ more (says-opt (precededBy 58 second) s (at + 5) _ false second-says) (rw (of-second r x) f)))))
         (b .says))))
 
 -- ---- together

@@ -1,6 +1,7 @@
 -- By what the minutes are, and where there are none, by the reading.
 use mathlib.Core.Bool.{false}
-use Rattle.time.proofs.Behind.{behind-got, behind-stop, behind-cut, behind-none, behind-fraction}
+use mathlib.Core.Path.{refl}
+use Rattle.time.proofs.Behind.{behind-first, behind-cut, behind-none, behind-fraction}
 use borrow.Author.Needs.{needs}
 use Rattle.time.proofs.time_behind_hour.Statement.{statement}
 use Rattle.time.proofs.time_behind_hour.Tie as tie
@@ -8,12 +9,12 @@ use Rattle.time.proofs.time_behind_hour.Tie as tie
 returns : tie.Need-returns
 returns c =
     let a = c .before .before .before .before .before .args in
-    behind-got (a .zero) (a .s .now) (a .at) (a .reading) _ _ _ (rw (c .before .clock .given .1) at (c .before .before .before .time-minute-second-millisecond .ensures))
+    behind-first (a .zero) (a .s .now) (a .at) (a .reading) _ _ refl (rw (c .before .clock .given .1) at (c .before .before .before .time-minute-second-millisecond .ensures))
 
 returns-2 : tie.Need-returns-2
 returns-2 c =
     let a = c .before .before .before .before .args in
-    behind-stop (a .zero) (a .s .now) (a .at) (a .reading) false (rw (c .enum-told .given .1) at (c .before .before .time-minute-second-millisecond .ensures))
+    behind-first (a .zero) (a .s .now) (a .at) (a .reading) _ false refl (rw (c .enum-told .given .1) at (c .before .before .time-minute-second-millisecond .ensures))
 
 returns-3 : tie.Need-returns-3
 returns-3 c =

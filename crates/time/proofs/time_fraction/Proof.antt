@@ -1,4 +1,4 @@
--- A comma or point, and the digits behind it, which are counted by the smallest unit.
+-- A comma or point, and the digits behind it, which are counted by the unit.
 use Prim.Native.Nat.{ℕ}
 use mathlib.Core.List.{List}
 use mathlib.Core.Bool.{Bool, true, false}
@@ -9,13 +9,13 @@ use Rattle.parser.specs.Fields.{either}
 use Rattle.parser.specs.Digits.{fractionOf}
 use Rattle.parser.proofs.Ahead.{run-ahead}
 use Rattle.parser.proofs.Says.{says-map, says-seq-got, says-seq-no}
-use Rattle.time.specs.declared.Smallest.{Smallest}
+use Rattle.time.specs.declared.TimeUnit.{TimeUnit}
 use Rattle.time.specs.Rules.{numbersIf, fractionIf, clockOf, timeFraction}
 use borrow.Author.Needs.{needs}
 use Rattle.time.proofs.time_fraction.Statement.{statement}
 use Rattle.time.proofs.time_fraction.Tie as tie
 
-module _ (u : Smallest) (z : Bool) (mi se : ℕ) (s : List ℕ) (at : ℕ) where
+module _ (u : TimeUnit) (z : Bool) (mi se : ℕ) (s : List ℕ) (at : ℕ) where
   point : Reader Fraction
   point = seq (either 44 46) (λ _. fractionIf z)
 
@@ -46,38 +46,38 @@ returns c =
     let mark = rw (d .before .before .before .before .mark .given .1) at (d .before .before .before .before .before .before .one-of .ensures) in
     let frac = rw (d .fraction .given .1) at (d .before .before .fraction-at .ensures) in
     rw (c .clock-of .ensures, fraction-by (made .fraction-of .ensures .0) (made .fraction-of .ensures .1))
-    (marked (a .smallest) (a .zero) (a .minute) (a .second) (a .s .now) (a .at) _ _ _ mark frac)
+    (marked (a .unit) (a .zero) (a .minute) (a .second) (a .s .now) (a .at) _ _ _ mark frac)
 
 returns-2 : tie.Need-returns-2
 returns-2 c =
     let a = c .before .before .before .before .before .before .before .before .args in
     let mark = rw (c .before .before .before .before .mark .given .1) at (c .before .before .before .before .before .before .one-of .ensures) in
     let frac = rw (c .enum-told .given .1) at (c .before .before .fraction-at .ensures) in
-    marked (a .smallest) (a .zero) (a .minute) (a .second) (a .s .now) (a .at) _ (stop 1) false mark frac
+    marked (a .unit) (a .zero) (a .minute) (a .second) (a .s .now) (a .at) _ (stop 1) false mark frac
 
 returns-3 : tie.Need-returns-3
 returns-3 c =
     let a = c .before .before .before .before .before .before .before .before .args in
     let mark = rw (c .before .before .before .before .mark .given .1) at (c .before .before .before .before .before .before .one-of .ensures) in
     let frac = rw (c .enum-told2 .given .1) at (c .before .before .fraction-at .ensures) in
-    marked (a .smallest) (a .zero) (a .minute) (a .second) (a .s .now) (a .at) _ no false mark frac
+    marked (a .unit) (a .zero) (a .minute) (a .second) (a .s .now) (a .at) _ no false mark frac
 
 returns-4 : tie.Need-returns-4
 returns-4 c =
     let a = c .before .before .before .before .before .before .before .before .args in
     let mark = rw (c .before .before .before .before .mark .given .1) at (c .before .before .before .before .before .before .one-of .ensures) in
     let frac = rw (c .enum-told3 .given .1) at (c .before .before .fraction-at .ensures) in
-    marked (a .smallest) (a .zero) (a .minute) (a .second) (a .s .now) (a .at) _ no true mark frac
+    marked (a .unit) (a .zero) (a .minute) (a .second) (a .s .now) (a .at) _ no true mark frac
 
 returns-5 : tie.Need-returns-5
 returns-5 c =
     let a = c .before .before .before .before .args in
-    unmarked (a .smallest) (a .zero) (a .minute) (a .second) (a .s .now) (a .at) false (rw (c .enum-told4 .given .1) at (c .before .before .one-of .ensures))
+    unmarked (a .unit) (a .zero) (a .minute) (a .second) (a .s .now) (a .at) false (rw (c .enum-told4 .given .1) at (c .before .before .one-of .ensures))
 
 returns-6 : tie.Need-returns-6
 returns-6 c =
     let a = c .before .before .before .before .args in
-    unmarked (a .smallest) (a .zero) (a .minute) (a .second) (a .s .now) (a .at) true (rw (c .enum-told5 .given .1) at (c .before .before .one-of .ensures))
+    unmarked (a .unit) (a .zero) (a .minute) (a .second) (a .s .now) (a .at) true (rw (c .enum-told5 .given .1) at (c .before .before .one-of .ensures))
 
 pub time-fraction-spec : {M : Type 1} → statement M
 time-fraction-spec =

@@ -6,7 +6,7 @@ use Rattle.parser.specs.Fields.{second, precededBy, orZero}
 use Rattle.parser.proofs.Says.{says-opt, says-seq-on, says-seq-stop}
 use Rattle.fields.specs.declared.Part.{Part}
 use Rattle.fields.proofs.LeftOut.{left-out}
-use Rattle.time.specs.Rules.{zeroIf, smallestOf, secondMillisecond, millisecond}
+use Rattle.time.specs.Rules.{zeroIf, unitOf, secondMillisecond, millisecond}
 use Rattle.time.proofs.Zero.{passes, refuses, unmarked}
 use borrow.Author.Needs.{needs}
 use Rattle.time.proofs.time_second_millisecond.Statement.{statement}
@@ -18,7 +18,7 @@ returns c =
     let a = c .before .before .before .before .before .before .args in
     let number = c .before .before .before .before .after-colon in
     let p = precededBy 58 (zeroIf (a .zero) second) in
-    says-seq-stop (opt p) (a .s .now) (a .at) (λ se. millisecond (smallestOf (a .reading) se) (a .zero) (a .minute) (orZero se)) 1 false (says-opt p (a .s .now) (a .at) (stop 1) false (refuses (a .zero) 60 (a .s .now) (a .at) (number .result) (number .ensures) _ (ap Part.value (c .before .before .or-left-out .ensures)) (sym (c .before .stops .ensures) ∙ c .if1 .taken)))
+    says-seq-stop (opt p) (a .s .now) (a .at) (λ se. millisecond (unitOf (a .reading) se) (a .zero) (a .minute) (orZero se)) 1 false (says-opt p (a .s .now) (a .at) (stop 1) false (refuses (a .zero) 60 (a .s .now) (a .at) (number .result) (number .ensures) _ (ap Part.value (c .before .before .or-left-out .ensures)) (sym (c .before .stops .ensures) ∙ c .if1 .taken)))
 
 time-millisecond-requires : tie.Need-time-millisecond-requires
 time-millisecond-requires c κs =
@@ -33,7 +33,7 @@ returns-2 c =
     let number = c .before .before .before .before .before .after-colon in
     let p = precededBy 58 (zeroIf (a .zero) second) in
     let part = rw (← c .before .before .before .or-left-out .ensures) at (left-out p (a .s .now) (a .at) (number .result) (passes (a .zero) 60 (a .s .now) (a .at) (number .result) (number .ensures) _ (ap Part.value (c .before .before .before .or-left-out .ensures)) (sym (c .before .before .stops .ensures) ∙ c .before .if1 .left))) in
-    says-seq-on (opt p) (λ se. millisecond (smallestOf (a .reading) se) (a .zero) (a .minute) (orZero se)) (a .s .now) (a .at) _ _ _ _ _ (part .says) (rw (part .value, c .before .before .before .before .smallest-of .ensures) at (c .time-millisecond .ensures))
+    says-seq-on (opt p) (λ se. millisecond (unitOf (a .reading) se) (a .zero) (a .minute) (orZero se)) (a .s .now) (a .at) _ _ _ _ _ (part .says) (rw (part .value, c .before .before .before .before .unit-of .ensures) at (c .time-millisecond .ensures))
 
 pub time-second-millisecond-spec : {M : Type 1} → statement M
 time-second-millisecond-spec =
