@@ -41,9 +41,9 @@
  *     TIROZHBAR_STANDARD          2  added to one of these: a fraction is one of the smallest unit written
  *
  * Any other number gets 254, before ROOM is looked at. Without TIROZHBAR_STANDARD a fraction is one of a second, also where no second was
- * written, and none may follow an hour. With it 21:56.5 is 21:56:30, and 21.5 is 21:30:00: of the digits the first nine count, that many
- * times 60 nanoseconds after a minute and 3600 after an hour. DIGITS is then 0 where the nanosecond is 0, and 9 elsewhere. After a second
- * nothing differs. What either leaves is written alike, with its second, and is read back by both.
+ * written, and none may follow an hour. With it 21:56.5 is 21:56:30, and 21.5 is 21:30:00: the digits are cut or padded with zeros to nine,
+ * and count that many times 60 nanoseconds after a minute and 3600 after an hour. DIGITS is then 0 where the nanosecond is 0, and 9
+ * elsewhere. After a second nothing differs. What either leaves is written alike, with its second, and is read back by both.
  *
  * Under 2004 hour 24 is a record if the minute and the second that are read and every digit of the fraction are 0; else the number is 1.
  * The record's hour is 24, and a date-time keeps the date that stands before it. Such a record is written for 2004 alone: for 2019 no
