@@ -20,7 +20,8 @@ use Rattle.writing.proofs.Laws.{Spells}
 use Rattle.date_writer.specs.Ranges.{dateGiven}
 use Rattle.date_writer.proofs.Laws.{date-reads, date-yields}
 use Rattle.time_writer.specs.Ranges.{timeGiven}
-use Rattle.time_writer.proofs.Laws.{base-reads, base-yields}
+use Rattle.time_writer.proofs.Yields.{base-yields}
+use Rattle.time_writer.proofs.Laws.{base-reads}
 use Rattle.datetime_writer.specs.Ranges.{dateTimeGiven}
 
 module _ (c : Choices) (x : DateTime) where

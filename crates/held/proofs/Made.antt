@@ -22,7 +22,7 @@ use Rattle.slots.proofs.Stores.{_then_}
 use Rattle.offset_writer.specs.Ranges.{offsetGiven}
 use Rattle.time_writer.specs.Ranges.{timeOffsetGiven, timeGiven}
 use Rattle.time_writer.proofs.Nine.{digits-few}
-use Rattle.time_writer.proofs.Laws.{time-within, last-small, within-day}
+use Rattle.time_writer.proofs.Within.{time-within, last-small, within-day}
 use Rattle.date_writer.specs.Ranges.{yearGiven, dateGiven}
 use Rattle.datetime_writer.specs.Ranges.{dateTimeGiven}
 use Rattle.datetime_writer.proofs.Laws.{date-given, time-given}

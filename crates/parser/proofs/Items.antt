@@ -18,7 +18,7 @@ use Rattle.parser.proofs.Ahead.{lit-ahead, field-ahead}
 use Rattle.parser.proofs.Steady.{opt-steady, run-steady}
 use Rattle.parser.proofs.Hopeful.{Ends, AnyByte, Anything, hopeful-or, Starts, Keeps, AtEnd, definite-keeps, at-end-definite, starts-weaken, left-out-starts}
 use Rattle.parser.proofs.Leaves.{From, Narrows, lit-starts, lit-at-end, lit-hopeful, map-at-end, alt-at-end, field-hopeful-in, field-starts, field-definite}
-use Rattle.parser.proofs.RunLeaves.{fraction-hopeful, fraction-starts, run-eager, run-then-starts, run-then-ends}
+use Rattle.parser.proofs.RunLeaves.{fraction-hopeful, run-eager, run-starts, run-then-starts, run-then-ends}
 use Rattle.parser.proofs.General.{lit-eager, seq-eager, field-eager}
 use Rattle.parser.proofs.Lawful.{most, In, byte, member, Outside, told-apart, outside-digit, outside-other, seq-lawful, Item, ItemOr, forget, map-item, alt-item, then-item}
 
@@ -142,7 +142,7 @@ fraction-item {l} = record {
   lawful = record { steady = run-steady fractionOf any-growing 1 (outside-digit l); hopeful = hopeful-or fraction-hopeful };
   fails = run-fails fractionOf any 1;
   eager = run-eager fractionOf any-growing 1;
-  starts = fraction-starts;
+  starts = run-starts fractionOf any-growing 1;
 }
 
 -- a run and what must follow it, which starts with the byte c

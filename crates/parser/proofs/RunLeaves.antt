@@ -1,4 +1,4 @@
--- The hope of digit runs and the fraction: a zero begins one, and a letter behind a run ends it.
+-- The hope of digit runs and the fraction: a zero begins a run, and a letter behind it ends it.
 use Prim.Native.Nat.{ℕ, suc, _+_, _<_, _≤_}
 use mathlib.Core.List.{List, [], _∷_, _++_}
 use mathlib.Core.Bool.{Bool, true, false}
@@ -13,7 +13,7 @@ use Rattle.parser.specs.Reading.{no, got, stop, Reader, seq, pick}
 use Rattle.parser.specs.Digits.{isDigit, digits, number, numberFrom, runAt, ofRun, atTheEnd, atMost, runAs, limit, run, fractionOf, fraction}
 use Rattle.parser.proofs.Fields.{and-first, and-second}
 use Rattle.parser.proofs.Runs.{run-end, digits-short}
-use Rattle.parser.proofs.Stable.{Growing}
+use Rattle.parser.proofs.Stable.{Growing, most-growing}
 use Rattle.parser.proofs.Places.{run-foreign}
 use Rattle.parser.proofs.Hopeful.{Ends, AnyByte, Anything, Hopeful, Starts, Keeps, foreign-keeps, ends-after, ends-then-starts, ends-weaken}
 use Rattle.parser.proofs.Leaves.{DigitByte}
@@ -68,14 +68,11 @@ pub fraction-hopeful : Hopeful 1 Anything fraction
 unfolding runAs
 fraction-hopeful s at le h = ends-weaken 1 AnyByte Anything (omega arith) (λ c x. tt) (λ a f. f) (fraction-ends s at le (and-first (atTheEnd s at) true h))
 
-pub fraction-starts : Starts 1 DigitByte Anything fraction
-fraction-starts s = fraction-ends s (length s) (omega arith) (end-open s (length s) (omega arith))
-
-run-starts : Starts 1 DigitByte Anything run
+pub run-starts : {A : Type 0} (f : List ℕ → A) {may : ℕ → Bool} → Growing may → (r : ℕ) → Starts 1 DigitByte Anything (runAs f may r)
 unfolding runAs numberFrom
-run-starts s =
+run-starts f g r s =
     let e : runAt (s ++ 48 ∷ []) (length s) ≡ 48 ∷ [] = zero-more s (length s) (omega arith) (end-open s (length s) (omega arith)) ∙ rw (drop-length s) in
-    record { first = 48; rest = []; value = 0; begins = refl; few = omega arith; fact = tt; reads = rw (e, length-append s (48 ∷ [])) }
+    record { first = 48; rest = []; value = f (48 ∷ []); begins = refl; few = omega arith; fact = tt; reads = rw (e, g .none, length-append s (48 ∷ [])) }
 
 -- a run that stands open at the end has no digit yet, or has a value there
 run-open : (s : List ℕ) (at : ℕ) → at ≤ length s → run .more s at ≡ true → (length s ≡ at) ⊎ ((v : ℕ) × (run .reads s at ≡ got v (length s)))
@@ -92,7 +89,7 @@ module _ {B : Type 0} {k : ℕ} {F : B → Type 0} (X : ℕ → Type 0) (q : ℕ
   keeps = foreign-keeps X run (run-foreign number (atMost limit) 2 X nd)
 
   pub run-then-starts : Starts (1 + k) DigitByte F (seq run q)
-  run-then-starts s = ends-then-starts 1 k X F run q (omega arith) keeps (λ v _. sq v) (run-starts s)
+  run-then-starts s = ends-then-starts 1 k X F run q (omega arith) keeps (λ v _. sq v) (run-starts number (most-growing limit) 2 s)
 
   pub run-then-ends : (s : List ℕ) (at : ℕ) → at ≤ length s → run .more s at ≡ true → Ends (1 + k) AnyByte F (seq run q) s at
   run-then-ends s at le h = go (run-open s at le h)

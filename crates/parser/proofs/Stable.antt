@@ -142,7 +142,7 @@ run-grows s x at = go (leb at (length s)) refl
         rw (drop-append-le at s x (leb-true at (length s) e), m .1, number-append (digits (drop at s)) (m .0) 0) (number-grows (m .0) (number (digits (drop at s))))
     go false e = rw (run-end s at (omega (arith, leb-false at (length s) e))) (number-grows (runAt (s ++ x) at) 0)
 
--- a number that a run may not have it may not have with more digits either, and with none it has 0, which it may have
+-- a number that is refused stays refused as it grows with more digits, and 0, the number of no digits, is not refused
 pub record Growing (may : ℕ → Bool) : Type 0 where
   pub none : may 0 ≡ true
   pub stays : (m n : ℕ) → m ≤ n → may m ≡ false → may n ≡ false

@@ -1,15 +1,15 @@
 -- What never stops the reading: single bytes and fields, and what is made of them; and what finds nothing where it is open.
 use Prim.Native.Nat.{ℕ, zero, suc, _+_, _*_, _-_}
-use mathlib.Core.List.{List}
+use mathlib.Core.List.{List, [], _∷_}
 use mathlib.Core.Bool.{Bool, true, false}
 use mathlib.Core.Path.{_≡_, refl, sym, _∙_}
 use native.Mathlib.Omega.{arith}
 use lib.ListN.{length, getD}
 use lib.Dec.{ltb, eqb}
 use Rattle.parser.specs.Reading.{Found, no, got, stop, Reader, lit, seq, then, opt, lack, alt, orElse, verify, keep, must, map, mapFound, pick, and, within}
-use Rattle.parser.specs.Digits.{digit, digitsFrom, field}
+use Rattle.parser.specs.Digits.{digit, digitsFrom, field, number, runAt, ofRun, atTheEnd, runAs}
 use Rattle.parser.specs.Fields.{precededBy}
-use Rattle.parser.proofs.Fields.{true≢false}
+use Rattle.parser.proofs.Fields.{true≢false, and-second}
 use Rattle.parser.proofs.Places.{stop≢got}
 use Rattle.parser.proofs.Hopeful.{Definite}
 use Rattle.parser.proofs.General.{Eager, preceded-same}
@@ -40,6 +40,15 @@ digits-unstopped lo hi (suc n) v s at r e = go (digit s at) e (digits-unstopped 
 pub field-unstopped : (n lo hi : ℕ) → Unstopped (field n lo hi)
 unfolding field
 field-unstopped n lo hi = record { never = digits-unstopped lo hi n 0 }
+
+-- a run that is open has a number that it may have
+pub run-unstopped : {A : Type 0} (f : List ℕ → A) (may : ℕ → Bool) (r : ℕ) (s : List ℕ) (at q : ℕ) → runAs f may r .more s at ≡ true → runAs f may r .reads s at ≡ stop q → ⊥
+unfolding runAs
+run-unstopped f may r s at q h e = go (runAt s at) (and-second (atTheEnd s at) h) e
+  where
+    go : (d : List ℕ) → may (number d) ≡ true → ofRun d no (pick (may (number d)) (got (f d) (at + length d)) (stop r)) ≡ stop q → ⊥
+    go [] small e = no≢stop e
+    go (b ∷ d) small e = stop≢got (sym (rw small at e))
 
 pub seq-unstopped : {A B : Type 0} {p : Reader A} {q : A → Reader B} → Unstopped p → ((a : A) → Unstopped (q a)) → Unstopped (seq p q)
 unfolding seq

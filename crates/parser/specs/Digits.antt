@@ -73,7 +73,7 @@ any n = true
 abbrev pub atMost : ℕ → ℕ → Bool
 atMost most n = leb n most
 
--- a digit run, one digit or more, with what its digits are read as; a number that it may not have ends all reading, by the number r
+-- a digit run, one digit or more, with what its digits are read as; a number that it may not have ends all reading, with refusal r
 unfoldable pub runAs : {A : Type 0} → (List ℕ → A) → (ℕ → Bool) → ℕ → Reader A
 runAs f may r = record {
   reads = λ s at.
@@ -99,6 +99,6 @@ upToNine n = pick (ltb 9 n) 9 n
 abbrev pub fractionOf : List ℕ → Fraction
 fractionOf d = record { nanosecond = nanoseconds d; digits = upToNine (length d) }
 
--- "one or more digits", of any number, as a fraction
+-- "one or more digits", as a fraction: whatever number they write, so that the 1 is never given
 abbrev pub fraction : Reader Fraction
 fraction = runAs fractionOf any 1

@@ -14,7 +14,7 @@ use Rattle.parser.specs.Reading.{Found, no, got, stop, Reader, lit, seq, then, 
 use Rattle.parser.specs.Digits.{isDigit, digits, number, numberFrom, runAt, ofRun, atTheEnd, runAs, nanoseconds, fractionOf}
 use Rattle.parser.specs.Fields.{either}
 use Rattle.parser.proofs.Fields.{true≢false, and-first, and-second}
-use Rattle.parser.proofs.Places.{no≢got, stop≢got, got-place, Bounded, Foreign, seq-bounded, alt-bounded, lit-bounded, run-bounded, run-foreign}
+use Rattle.parser.proofs.Places.{no≢got, stop≢got, got-place, Bounded, seq-bounded, alt-bounded, lit-bounded, run-bounded, run-foreign}
 use Rattle.parser.proofs.RunLeaves.{of-run}
 use Rattle.shortening.specs.Points.{isPoint}
 use Rattle.shortening.proofs.Cuts.{Cut, whole, kept, Place, behind, Carried, Simulates}
@@ -22,18 +22,6 @@ use Rattle.shortening.proofs.Local.{Local, lit-local, run-local, alt-lo
 use Rattle.shortening.proofs.Spans.{Spans}
 use Rattle.shortening.proofs.Trims.{fractions, FractionCut, cut, allDigits, Normal, Trims, same-before, simulates-by}
 use Rattle.shortening.proofs.Fields.{point-no-digit}
-
--- ---- what reads the digits behind a comma or point: its run d, up to the place k, is told as `value d k`
-
-pub record Leaf {A : Type 0} (q : Reader A) : Type 0 where
-  pub value : List ℕ → ℕ → Found A
-  pub reads : (s : List ℕ) (at : ℕ) → q .reads s at ≡ ofRun (runAt s at) no (value (runAt s at) (at + length (runAt s at)))
-  pub opens : (s : List ℕ) (at : ℕ) → q .more s at ≡ true → atTheEnd s at ≡ true
-  pub ends : (d : List ℕ) (k : ℕ) (a : A) (n : ℕ) → value d k ≡ got a n → n ≡ k
-  pub local : Local q
-  pub bounded : Bounded q
-  pub foreign : Foreign (λ b. isPoint b ≡ true) q
-  pub same : (z : FractionCut) (x : List ℕ) (m n : ℕ) → Place (cut fractions z) m n → Carried (cut fractions z) (value (z .nine ++ (z .tenth ∷ z .next ∷ x)) m) (value (z .nine ++ (z .one ∷ x)) n)
 
 -- ---- the fraction: nine digits decide
 
@@ -86,31 +74,6 @@ zero-joined z x =
     and-assoc true u = refl
     and-assoc false u = refl
 
--- a fraction that may have any number, or one that one digit for two leaves it
-pub fraction-leaf : (may : ℕ → Bool) (r : ℕ) → ((z : FractionCut) (x : List ℕ) → may (number (z .nine ++ (z .tenth ∷ z .next ∷ x))) ≡ may (number (z .nine ++ (z .one ∷ x)))) → Leaf (runAs fractionOf may r)
-unfolding runAs
-fraction-leaf may r joined = record {
-  value = value;
-  reads = λ s at. refl;
-  opens = λ s at o. and-first (atTheEnd s at) _ o;
-  ends = λ d k a n. ends d k a n (may (number d));
-  local = run-local fractionOf may r;
-  bounded = run-bounded fractionOf may r;
-  foreign = run-foreign fractionOf may r (λ b. isPoint b ≡ true) point-no-digit;
-  same = λ z x m n e. rw (joined z x, same-fraction z x) (same z m n e (fractionOf (z .nine ++ (z .one ∷ x))) (may (number (z .nine ++ (z .one ∷ x)))));
-}
-  where
-    value : List ℕ → ℕ → Found Fraction
-    value d k = pick (may (number d)) (got (fractionOf d) k) (stop r)
-
-    ends : (d : List ℕ) (k : ℕ) (a : Fraction) (n : ℕ) (t : Bool) → pick t (got (fractionOf d) k) (stop r) ≡ got a n → n ≡ k
-    ends d k a n true e = sym (got-place e)
-    ends d k a n false e = absurd (stop≢got e)
-
-    same : (z : FractionCut) (m n : ℕ) → Place (cut fractions z) m n → (f : Fraction) (t : Bool) → Carried (cut fractions z) (pick t (got f m) (stop r)) (pick t (got f n) (stop r))
-    same z m n e f true = record { place = m; found = refl; same = e }
-    same z m n e f false = refl
-
 -- ---- what the comma or point with its digits finds, and where it is open
 
 either-way : {A B : Type 0} (v : A) (n : ℕ) (k : ℕ → Found B) (t u : Bool) → then (orElse (pick t (got v n) no) (pick u (got v n) no)) (λ _ m. k m) ≡ pick (or t u) (k n) no
@@ -128,62 +91,95 @@ unfolding digits
 digits-through [] x h = refl
 digits-through (b ∷ l) x h = rw (and-first (isDigit b) (allDigits l) h, digits-through l x (and-second (isDigit b) h))
 
-module _ {A : Type 0} (q : Reader A) (l : Leaf q) where
-  abbrev point : Reader A
-  point = seq (either 44 46) (λ _. q)
+-- one digit for two leaves what the test says of the number
+abbrev pub Joined : (ℕ → Bool) → Type 0
+Joined may = (z : FractionCut) (x : List ℕ) → may (number (z .nine ++ (z .tenth ∷ z .next ∷ x))) ≡ may (number (z .nine ++ (z .one ∷ x)))
+
+module _ (may : ℕ → Bool) (r : ℕ) (joined : Joined may) where
+  abbrev leaf : Reader Fraction
+  leaf = runAs fractionOf may r
+
+  abbrev point : Reader Fraction
+  point = seq (either 44 46) (λ _. leaf)
+
+  -- what its run d, up to the place k, is told as
+  abbrev value : List ℕ → ℕ → Found Fraction
+  value d k = pick (may (number d)) (got (fractionOf d) k) (stop r)
+
+  leaf-reads : (s : List ℕ) (at : ℕ) → leaf .reads s at ≡ ofRun (runAt s at) no (value (runAt s at) (at + length (runAt s at)))
+  unfolding runAs
+  leaf-reads s at = refl
+
+  leaf-opens : (s : List ℕ) (at : ℕ) → leaf .more s at ≡ true → atTheEnd s at ≡ true
+  unfolding runAs
+  leaf-opens s at o = and-first (atTheEnd s at) _ o
+
+  value-ends : (d : List ℕ) (k : ℕ) (a : Fraction) (n : ℕ) → value d k ≡ got a n → n ≡ k
+  value-ends d k a n = go (may (number d))
+    where
+      go : (t : Bool) → pick t (got (fractionOf d) k) (stop r) ≡ got a n → n ≡ k
+      go true e = sym (got-place e)
+      go false e = absurd (stop≢got e)
+
+  value-same : (z : FractionCut) (x : List ℕ) (m n : ℕ) → Place (cut fractions z) m n → Carried (cut fractions z) (value (z .nine ++ (z .tenth ∷ z .next ∷ x)) m) (value (z .nine ++ (z .one ∷ x)) n)
+  value-same z x m n e = rw (joined z x, same-fraction z x) (go (fractionOf (z .nine ++ (z .one ∷ x))) (may (number (z .nine ++ (z .one ∷ x)))))
+    where
+      go : (f : Fraction) (t : Bool) → Carried (cut fractions z) (pick t (got f m) (stop r)) (pick t (got f n) (stop r))
+      go f true = record { place = m; found = refl; same = e }
+      go f false = refl
 
   point-local : Local point
-  point-local = seq-local (either 44 46) (λ _. q) (alt-local (lit 44) (lit 46) (lit-local 44) (lit-local 46)) (λ _. l .local)
+  point-local = seq-local (either 44 46) (λ _. leaf) (alt-local (lit 44) (lit 46) (lit-local 44) (lit-local 46)) (λ _. run-local fractionOf may r)
 
   point-bounded : Bounded point
-  point-bounded = seq-bounded (either 44 46) (λ _. q) (alt-bounded (lit 44) (lit 46) (lit-bounded 44) (lit-bounded 46)) (λ _. l .bounded)
+  point-bounded = seq-bounded (either 44 46) (λ _. leaf) (alt-bounded (lit 44) (lit 46) (lit-bounded 44) (lit-bounded 46)) (λ _. run-bounded fractionOf may r)
 
-  point-at : (s : List ℕ) (at : ℕ) → point .reads s at ≡ pick (isPoint (getD s at 0)) (q .reads s (at + 1)) no
+  point-at : (s : List ℕ) (at : ℕ) → point .reads s at ≡ pick (isPoint (getD s at 0)) (leaf .reads s (at + 1)) no
   unfolding seq alt lit
   point-at s at = go (ltb at (length s)) refl
     where
-      go : (t : Bool) → ltb at (length s) ≡ t → point .reads s at ≡ pick (isPoint (getD s at 0)) (q .reads s (at + 1)) no
-      go true e = rw e (either-way tt (at + 1) (λ m. q .reads s m) (eqb (getD s at 0) 44) (eqb (getD s at 0) 46))
+      go : (t : Bool) → ltb at (length s) ≡ t → point .reads s at ≡ pick (isPoint (getD s at 0)) (leaf .reads s (at + 1)) no
+      go true e = rw e (either-way tt (at + 1) (λ m. leaf .reads s m) (eqb (getD s at 0) 44) (eqb (getD s at 0) 46))
       go false e = rw (e, List·getD-eq-default s 0 (ltb-false at (length s) e))
 
-  point-open : (s : List ℕ) (at : ℕ) → at < length s → point .more s at ≡ pick (isPoint (getD s at 0)) (q .more s (at + 1)) false
+  point-open : (s : List ℕ) (at : ℕ) → at < length s → point .more s at ≡ pick (isPoint (getD s at 0)) (leaf .more s (at + 1)) false
   unfolding seq alt lit
-  point-open s at lt = rw (lt-ltb at (length s) lt) (either-open tt (at + 1) (λ m. q .more s m) (eqb (getD s at 0) 44) (eqb (getD s at 0) 46))
+  point-open s at lt = rw (lt-ltb at (length s) lt) (either-open tt (at + 1) (λ m. leaf .more s m) (eqb (getD s at 0) 44) (eqb (getD s at 0) 46))
 
   -- ---- eleven bytes
 
-  leaf-ends : (s : List ℕ) (at : ℕ) (a : A) (n : ℕ) → q .reads s at ≡ got a n → n ≡ at + length (runAt s at)
-  leaf-ends s at a n e = go (runAt s at) (sym (l .reads s at) ∙ e)
+  leaf-ends : (s : List ℕ) (at : ℕ) (a : Fraction) (n : ℕ) → leaf .reads s at ≡ got a n → n ≡ at + length (runAt s at)
+  leaf-ends s at a n e = go (runAt s at) (sym (leaf-reads s at) ∙ e)
     where
-      go : (d : List ℕ) → ofRun d no (l .value d (at + length d)) ≡ got a n → n ≡ at + length d
+      go : (d : List ℕ) → ofRun d no (value d (at + length d)) ≡ got a n → n ≡ at + length d
       go [] e = absurd (no≢got e)
-      go (b ∷ d) e = l .ends (b ∷ d) (at + length (b ∷ d)) a n e
+      go (b ∷ d) e = value-ends (b ∷ d) (at + length (b ∷ d)) a n e
 
   point-spans : (s : List ℕ) → Normal fractions s → (at : ℕ) → Spans (λ _. Unit) s 11 at (point .more s at) (point .reads s at)
   point-spans s few at = record { opens = λ o. opened (ltb at (length s)) refl o; ends = λ a n e. (ended a n (isPoint (getD s at 0)) refl (sym (point-at s at) ∙ e), tt) }
     where
-      inside : (t : Bool) → isPoint (getD s at 0) ≡ t → pick t (q .more s (at + 1)) false ≡ true → length s ≤ at + 11
-      inside true e o = omega (arith, few at e, ltb-false (at + 1 + length (runAt s (at + 1))) (length s) (not-true (ltb (at + 1 + length (runAt s (at + 1))) (length s)) (l .opens s (at + 1) o)))
+      inside : (t : Bool) → isPoint (getD s at 0) ≡ t → pick t (leaf .more s (at + 1)) false ≡ true → length s ≤ at + 11
+      inside true e o = omega (arith, few at e, ltb-false (at + 1 + length (runAt s (at + 1))) (length s) (not-true (ltb (at + 1 + length (runAt s (at + 1))) (length s)) (leaf-opens s (at + 1) o)))
       inside false e o = absurd (true≢false (sym o))
 
       opened : (t : Bool) → ltb at (length s) ≡ t → point .more s at ≡ true → length s ≤ at + 11
       opened true e o = inside (isPoint (getD s at 0)) refl (sym (point-open s at (ltb-true at (length s) e)) ∙ o)
       opened false e o = omega (arith, ltb-false at (length s) e)
 
-      ended : (a : A) (n : ℕ) (t : Bool) → isPoint (getD s at 0) ≡ t → pick t (q .reads s (at + 1)) no ≡ got a n → n ≤ at + 11
+      ended : (a : Fraction) (n : ℕ) (t : Bool) → isPoint (getD s at 0) ≡ t → pick t (leaf .reads s (at + 1)) no ≡ got a n → n ≤ at + 11
       ended a n true e eg = omega (arith, few at e, leaf-ends s (at + 1) a n eg)
       ended a n false e eg = absurd (no≢got eg)
 
   -- ---- the same is told
 
   -- the point at the end of u, nine digits and r more
-  at-point : (u : List ℕ) (z : ℕ) (n r y : List ℕ) → isPoint z ≡ true → allDigits n ≡ true → allDigits r ≡ true → 0 < length r → point .reads (u ++ ((z ∷ (n ++ r)) ++ y)) (length u) ≡ l .value (n ++ (r ++ digits y)) (length (u ++ z ∷ (n ++ r)) + length (digits y))
+  at-point : (u : List ℕ) (z : ℕ) (n r y : List ℕ) → isPoint z ≡ true → allDigits n ≡ true → allDigits r ≡ true → 0 < length r → point .reads (u ++ ((z ∷ (n ++ r)) ++ y)) (length u) ≡ value (n ++ (r ++ digits y)) (length (u ++ z ∷ (n ++ r)) + length (digits y))
   at-point u z n r y hz an ar hr =
       let s = u ++ ((z ∷ (n ++ r)) ++ y) in
       let run : runAt s (length u + 1) ≡ n ++ (r ++ digits y) = rw (drop-append-add u ((z ∷ (n ++ r)) ++ y) 1, append-assoc n r y, digits-through n (r ++ y) an, digits-through r y ar) in
       let size : length u + 1 + length (n ++ (r ++ digits y)) ≡ length (u ++ z ∷ (n ++ r)) + length (digits y) = omega (arith, length-append n (r ++ digits y), length-append r (digits y), length-append u (z ∷ (n ++ r)), length-append n r) in
       let some : 0 < length (n ++ (r ++ digits y)) = omega (arith, length-append n (r ++ digits y), length-append r (digits y)) in
-      point-at s (length u) ∙ rw (getD-append-seam u z ((n ++ r) ++ y) 0, hz) (l .reads s (length u + 1) ∙ rw (run, size) (of-run (n ++ (r ++ digits y)) no (l .value (n ++ (r ++ digits y)) (length (u ++ z ∷ (n ++ r)) + length (digits y))) some))
+      point-at s (length u) ∙ rw (getD-append-seam u z ((n ++ r) ++ y) 0, hz) (leaf-reads s (length u + 1) ∙ rw (run, size) (of-run (n ++ (r ++ digits y)) no (value (n ++ (r ++ digits y)) (length (u ++ z ∷ (n ++ r)) + length (digits y))) some))
 
   module _ (z : FractionCut) where
     abbrev here : Cut
@@ -191,13 +187,13 @@ module _ {A : Type 0} (q : Reader A) (l : Leaf q) where
 
     point-at-cut : Carried here (point .reads (whole here) (length (z .before))) (point .reads (kept here) (length (z .before)))
     point-at-cut = rw (at-point (z .before) (z .point) (z .nine) (z .tenth ∷ z .next ∷ []) (z .rest) (z .points) (z .digits) (rw (z .first, z .second)) (omega arith), at-point (z .before) (z .point) (z .nine) (z .one ∷ []) (z .rest) (z .points) (z .digits) (rw (z .either)) (omega arith))
-        (l .same z (digits (z .rest)) _ _ (behind (length (digits (z .rest))) refl refl))
+        (value-same z (digits (z .rest)) _ _ (behind (length (digits (z .rest))) refl refl))
 
     -- a fraction that begins before the cut ends there
     point-before : (n : ℕ) → n < length (z .before) → (y : List ℕ) → point .reads (z .before ++ z .point ∷ y) n ≡ point .reads (z .before) n
     point-before n lt y =
         let same : getD (z .before ++ z .point ∷ y) n 0 ≡ getD (z .before) n 0 = List·getD-append (z .before) (z .point ∷ y) 0 n lt in
-        let on = l .foreign (z .before) (z .point) y (n + 1) (z .points) (omega arith) in
+        let on = run-foreign fractionOf may r (λ b. isPoint b ≡ true) point-no-digit (z .before) (z .point) y (n + 1) (z .points) (omega arith) in
         point-at (z .before ++ z .point ∷ y) n ∙ rw (same, on) (sym (point-at (z .before) n))
 
     point-simulates : Simulates here point

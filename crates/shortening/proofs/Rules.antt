@@ -1,8 +1,7 @@
 -- What can be left out of a record of each kind, and how far its rule comes then: by the laws of the combinators, a kind in a few lines.
 use Prim.Native.Nat.{ℕ}
-use mathlib.Core.List.{List, _∷_, _++_}
 use mathlib.Core.Bool.{Bool, true, false}
-use mathlib.Core.Path.{_≡_, refl}
+use mathlib.Core.Path.{refl}
 use native.Mathlib.Omega.{arith}
 use Rattle.types.specs.declared.Choices.{Choices}
 use Rattle.types.specs.declared.Edition.{Edition}
@@ -10,7 +9,7 @@ use Rattle.types.specs.declared.Edition.the-variants.{E2004, E2019}
 use Rattle.types.specs.declared.Reading.{Reading}
 use Rattle.types.specs.declared.Reading.the-variants.{Old, Standard}
 use Rattle.parser.specs.Reading.{seq}
-use Rattle.parser.specs.Digits.{field, number}
+use Rattle.parser.specs.Digits.{field}
 use Rattle.parser.specs.Fields.{signed, either, precededBy, orZero}
 use Rattle.offset.specs.Rules.{offset, offsetHour, offsetMinute, offsetZulu}
 use Rattle.time.specs.declared.TimeUnit.{TimeUnit}
@@ -22,10 +21,10 @@ use Rattle.duration.specs.Rules.{duration, partsRule, durationTime, durationBas
 use Rattle.kinds.specs.declared.answer.Kind.{Kind}
 use Rattle.kinds.specs.declared.answer.Kind.the-variants as kind
 use Rattle.kinds.specs.Kinds.{ruleOf}
-use Rattle.shortening.proofs.Trims.{Family, zeros, fractions, FractionCut, Trims, lit-trims, seq-trims, opt-trims, alt-trims, verify-trims, must-trims, map-trims, give-trims, preceded-trims, weaken-trims}
+use Rattle.shortening.proofs.Trims.{Family, zeros, fractions, Trims, lit-trims, seq-trims, opt-trims, alt-trims, verify-trims, must-trims, map-trims, give-trims, preceded-trims, weaken-trims}
 use Rattle.shortening.proofs.Zeros.{part-trims}
 use Rattle.shortening.proofs.Fields.{field-trims}
-use Rattle.shortening.proofs.Fractions.{zero-joined, fraction-leaf, point-trims}
+use Rattle.shortening.proofs.Fractions.{zero-joined, Joined, point-trims}
 
 duration-trims : Trims zeros 79 duration
 unfolding duration partsRule durationTime durationBaseTime
@@ -53,11 +52,11 @@ zero-trims true hi = preceded-trims 58 refl (must-trims _ 1 (field-trims 2 0 hi)
 zero-trims false hi = preceded-trims 58 refl (field-trims 2 0 hi)
 
 fraction-trims : (z : Bool) → Trims fractions 11 (seq (either 44 46) (λ _. fractionIf z))
-fraction-trims z = point-trims (fractionIf z) (fraction-leaf (numbersIf z) 1 (joined z))
+fraction-trims z = point-trims (numbersIf z) 1 (joined z)
   where
-    joined : (z : Bool) (c : FractionCut) (x : List ℕ) → numbersIf z (number (c .nine ++ (c .tenth ∷ c .next ∷ x))) ≡ numbersIf z (number (c .nine ++ (c .one ∷ x)))
-    joined true c x = zero-joined c x
-    joined false c x = refl
+    joined : (z : Bool) → Joined (numbersIf z)
+    joined true = zero-joined
+    joined false = λ c x. refl
 
 unit-trims : (u : TimeUnit) (z : Bool) (mi se : ℕ) → Trims fractions 11 (timeFraction u z mi se)
 unfolding timeFraction

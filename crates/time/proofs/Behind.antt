@@ -13,7 +13,7 @@ use Rattle.parser.proofs.Says.{says-alt-no, says-alt-first}
 use Rattle.time.specs.declared.Clock.{Clock}
 use Rattle.time.specs.declared.TimeUnit.the-variants.{Hour, Second}
 use Rattle.time.specs.Rules.{unitOf, timeFraction, minuteSecondMillisecond, behindHour}
-use Rattle.time.proofs.Unmarked.{no-point, minute-no-mark}
+use Rattle.time.proofs.Unmarked.{no-fraction, minute-no-mark}
 
 -- after a second nothing differs from the old reading
 pub of-second : (r : Reading) (se : ℕ) → unitOf r (some se) ≡ Second
@@ -34,7 +34,7 @@ module _ (z : Bool) (s : List ℕ) (at : ℕ) where
   unfolding behindHour
   behind-cut Old h = h
   behind-cut Standard h =
-      let none = no-point Hour z 0 0 s at (minute-no-mark Standard z s at (sym (h .more)) (sym (h .found))) in
+      let none = no-fraction Hour z 0 0 s at (minute-no-mark Standard z s at (sym (h .more)) (sym (h .found))) in
       says-alt-no (minuteSecondMillisecond Standard z) s at (timeFraction Hour z 0 0) true no _ h (record { found = sym none; more = refl })
 
   pub behind-none : (r : Reading) → r ≡ Old → Says (minuteSecondMillisecond r z) s at no false → Says (behindHour r z) s at no false

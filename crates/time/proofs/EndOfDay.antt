@@ -1,32 +1,31 @@
 -- Behind the hour that ends the day the rule reads as behind any other hour, or stops the reading; and where it is open it has a value now.
 -- So where it is open, a few bytes more are read to the last one or stop the reading.
-use Prim.Native.Nat.{ℕ, _+_}
-use mathlib.Core.List.{List, [], _∷_}
+use Prim.Native.Nat.{ℕ}
+use mathlib.Core.List.{List, []}
 use mathlib.Core.Bool.{Bool, true, false}
 use mathlib.Core.Option.{Option, some, none}
 use mathlib.Core.Path.{_≡_, refl, sym, _∙_}
 use native.Mathlib.Omega.{arith}
 use lib.Dec.{leb, eqb}
-use lib.ListN.{length}
 use Rattle.types.specs.declared.Fraction.{Fraction}
 use Rattle.types.specs.declared.Reading.{Reading}
 use Rattle.types.specs.declared.Reading.the-variants.{Old, Standard}
-use Rattle.parser.specs.Reading.{Found, no, got, stop, Reader, seq, after, opt, lack, alt, orElse, failed, must, map, mapFound, or, and, pick}
-use Rattle.parser.specs.Digits.{field, reach, lowest, highest, number, runAt, ofRun, atTheEnd, atMost, runAs, fractionOf}
+use Rattle.parser.specs.Reading.{Found, no, got, stop, Reader, seq, after, opt, lack, alt, orElse, failed, must, map, mapFound, or, and}
+use Rattle.parser.specs.Digits.{field, reach, lowest, highest, atMost, fractionOf}
 use Rattle.parser.specs.Fields.{minute, second, precededBy, orZero}
-use Rattle.parser.proofs.Fields.{true≢false, and-second}
+use Rattle.parser.proofs.Fields.{true≢false}
 use Rattle.parser.proofs.Places.{stop≢got}
 use Rattle.parser.proofs.Leaves.{field-definite}
 use Rattle.parser.proofs.General.{field-eager}
 use Rattle.parser.proofs.Stricter.{Stricter, same-stricter, must-stricter, run-stricter, map-stricter, opt-stricter, alt-stricter, seq-stricter, Valued}
-use Rattle.parser.proofs.Unstopped.{no≢stop, Awaits, field-unstopped, definite-awaits, must-awaits, preceded-awaits}
+use Rattle.parser.proofs.Unstopped.{no≢stop, run-unstopped, Awaits, field-unstopped, definite-awaits, must-awaits, preceded-awaits}
 use Rattle.offset.specs.Rules.{offset}
 use Rattle.offset.proofs.Laws.{offset-unstopped}
 use Rattle.time.specs.declared.Clock.{Clock}
 use Rattle.time.specs.declared.TimeUnit.{TimeUnit}
 use Rattle.time.specs.declared.TimeUnit.the-variants.{Hour}
 use Rattle.time.specs.Rules.{orWhole, unitOf, clockOf, timeOf, zeroIf, fractionIf, timeFraction, millisecond, secondMillisecond, minuteSecondMillisecond, behindHour, timeOffset, afterHour}
-use Rattle.time.proofs.Unmarked.{mark, mark-at-end, mark-fails, zero-no-mark, no-point, minute-no-mark}
+use Rattle.time.proofs.Unmarked.{mark, mark-at-end, mark-fails, zero-no-mark, no-fraction, minute-no-mark}
 
 -- ---- stricter than behind any other hour
 
@@ -79,22 +78,13 @@ map-valued f p s at v = (f (v .0), (v .1 .0, rw (v .1 .1)))
 
 -- ---- the fraction
 
--- open digits are all 0 so far
-run-open : (s : List ℕ) (at r : ℕ) → fractionIf true .more s at ≡ true → fractionIf true .reads s at ≡ stop r → ⊥
-unfolding runAs
-run-open s at r h e = go (runAt s at) (and-second (atTheEnd s at) h) e
-  where
-    go : (d : List ℕ) → leb (number d) 0 ≡ true → ofRun d no (pick (leb (number d) 0) (got (fractionOf d) (at + length d)) (stop 1)) ≡ stop r → ⊥
-    go [] small e = no≢stop e
-    go (b ∷ d) small e = stop≢got (sym (rw small at e))
-
 point-open : (u : TimeUnit) (mi se : ℕ) (s : List ℕ) (at r : ℕ) → timeFraction u true mi se .more s at ≡ true → timeFraction u true mi se .reads s at ≡ stop r → ⊥
 unfolding timeFraction map seq
 point-open u mi se s at r h e = go (mark .more s at) refl (mark .reads s at) refl h
   where
     digits : (n : ℕ) (f : Found Fraction) → fractionIf true .reads s n ≡ f → fractionIf true .more s n ≡ true → mapFound (clockOf u mi se) f ≡ stop r → ⊥
     digits n no ef h e = no≢stop e
-    digits n (stop q) ef h e = run-open s n q h ef
+    digits n (stop q) ef h e = run-unstopped fractionOf (atMost 0) 1 s n q h ef
     digits n (got a k) ef h e = stop≢got (sym e)
 
     go : (m : Bool) → mark .more s at ≡ m → (f : Found Unit) → mark .reads s at ≡ f → or m (after f (λ _ n. fractionIf true .more s n)) ≡ true → ⊥
@@ -117,7 +107,7 @@ second-valued r mi s at h = go (zeroField 60 .more s at) refl (zeroField 60 .rea
     on o n e h = let v = millisecond-valued (unitOf r o) mi (orZero o) s n h in (v .0, (v .1 .0, rw (e, v .1 .1)))
 
     go : (m : Bool) → zeroField 60 .more s at ≡ m → (f : Found ℕ) → zeroField 60 .reads s at ≡ f → or m (after (lack at f) (λ o n. millisecond (unitOf r o) true mi (orZero o) .more s n)) ≡ true → Valued (secondMillisecond r true mi) s at
-    go true em f ef h = on none at (rw (zero-awaits 60 refl .none s at em)) (λ q e. no≢stop (sym (no-point (unitOf r none) true mi 0 s at (zero-no-mark true 60 s at em)) ∙ e))
+    go true em f ef h = on none at (rw (zero-awaits 60 refl .none s at em)) (λ q e. no≢stop (sym (no-fraction (unitOf r none) true mi 0 s at (zero-no-mark true 60 s at em)) ∙ e))
     go false em no ef h = on none at (rw ef) (λ q e. point-open (unitOf r none) mi 0 s at q h e)
     go false em (stop q) ef h = absurd (true≢false (sym h))
     go false em (got a n) ef h = on (some a) n (rw ef) (λ q e. point-open (unitOf r (some a)) mi a s n q h e)
@@ -143,7 +133,7 @@ behind-open Standard s at q h e = go (minutes .more s at) refl (minutes .reads s
     minutes = minuteSecondMillisecond Standard true
 
     go : (m : Bool) → minutes .more s at ≡ m → (f : Found Clock) → minutes .reads s at ≡ f → or m (and (failed f) (timeFraction Hour true 0 0 .more s at)) ≡ true → orElse f (timeFraction Hour true 0 0 .reads s at) ≡ stop q → ⊥
-    go true em no ef h e = no≢stop (rw (no-point Hour true 0 0 s at (minute-no-mark Standard true s at em ef)) at e)
+    go true em no ef h e = no≢stop (rw (no-fraction Hour true 0 0 s at (minute-no-mark Standard true s at em ef)) at e)
     go false em no ef h e = point-open Hour 0 0 s at q h e
     go true em (stop x) ef h e = minute-open Standard s at x em ef
     go false em (stop x) ef h e = true≢false (sym h)

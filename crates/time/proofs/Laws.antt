@@ -29,7 +29,7 @@ use Rattle.time.specs.declared.Clock.{Clock}
 use Rattle.time.specs.declared.TimeUnit.{TimeUnit}
 use Rattle.time.specs.declared.TimeUnit.the-variants.{Hour}
 use Rattle.time.specs.Rules.{hourOf, endsDay, orWhole, unitOf, timeFraction, millisecond, secondMillisecond, minuteSecondMillisecond, behindHour, timeOffset, afterHour, baseTime, time}
-use Rattle.time.proofs.Unmarked.{mark-fails, no-point}
+use Rattle.time.proofs.Unmarked.{mark-fails, no-fraction}
 use Rattle.time.proofs.EndOfDay.{zeroField, after-hour-stricter, after-hour-valued}
 
 -- what a time takes beside digits: `T`, `:`, `,`, `.`, and what an offset takes, `+`, `-`, `:` and `Z`
@@ -91,7 +91,7 @@ minute-fails r s at h = rw (lit-fails 58 s at h, must-fails (λ v. eqb v 0) 1 (f
 behind-fails : (r : Reading) → Fails (behindHour r true)
 unfolding behindHour
 behind-fails Old = minute-fails Old
-behind-fails Standard = alt-fails (minuteSecondMillisecond Standard true) (timeFraction Hour true 0 0) (minute-fails Standard) (λ s at h. no-point Hour true 0 0 s at (mark-fails s at h))
+behind-fails Standard = alt-fails (minuteSecondMillisecond Standard true) (timeFraction Hour true 0 0) (minute-fails Standard) (λ s at h. no-fraction Hour true 0 0 s at (mark-fails s at h))
 
 end-of-day-tail : {W : Type 0} → W → (r : Reading) (h : ℕ) → TailOr W Unit bytes 3 Anything (afterHour r true h)
 unfolding afterHour

@@ -1,4 +1,5 @@
--- What is counted is exact: the minute, the second and the nanosecond make up what was counted, and each stays below the next.
+-- What is counted is exact: the minute, the second and the nanosecond make up what was counted, the second below 60 and the nanosecond
+-- below ten to the ninth.
 use Prim.Native.Nat.{ℕ, _+_, _*_, _≤_}
 use mathlib.Core.Path.{_≡_}
 use native.Mathlib.Omega.{arith}

@@ -1,4 +1,4 @@
--- Where a minute or a second is still open neither a comma nor a point stands; so behind an hour no two things are read at one place.
+-- Where a minute or a second is still open neither a comma nor a point stands, so that no fraction is read there.
 use Prim.Native.Nat.{ℕ}
 use mathlib.Core.List.{List, [], _∷_}
 use mathlib.Core.Bool.{Bool, true, false}
@@ -50,9 +50,9 @@ zero-no-mark false hi s at h = no-mark hi s at h
 zero-no-mark true hi s at h = no-mark hi s at h
 
 -- and there no fraction is read
-pub no-point : (u : TimeUnit) (z : Bool) (mi se : ℕ) (s : List ℕ) (at : ℕ) → mark .reads s at ≡ no → timeFraction u z mi se .reads s at ≡ no
+pub no-fraction : (u : TimeUnit) (z : Bool) (mi se : ℕ) (s : List ℕ) (at : ℕ) → mark .reads s at ≡ no → timeFraction u z mi se .reads s at ≡ no
 unfolding timeFraction map seq
-no-point u z mi se s at e = rw e
+no-fraction u z mi se s at e = rw e
 
 -- ---- what may be absent is no failure: so a minute that is there is read, or what follows it stops the reading
 

@@ -91,7 +91,7 @@ fn stops(zero: bool, value: u32) -> bool
     zero && value != 0
 }
 
-// The digits behind a comma or point, a run in nanoseconds. `zero`: all have to be 0.
+// The digits behind a comma or point, a run in billionths. `zero`: all have to be 0.
 fn fraction_at(s: &[u8], at: usize, zero: bool) -> Run
     ensures { λ r. ⌜ Says (fractionIf zero) (now (s .entry)) at (fractionFound at r) (runMore r) ⌝ }
 {

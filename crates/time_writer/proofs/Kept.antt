@@ -34,7 +34,8 @@ use Rattle.writing.specs.Writing.{Readable}
 use Rattle.writing.proofs.Digits.{length-padded, number-padded, padded-digits}
 use Rattle.writing.proofs.Yields.{seq-found, map-found, OptFound, absent, there, opt-found, alt-found}
 use Rattle.time_writer.specs.Ranges.{fractionGiven}
-use Rattle.time_writer.proofs.Laws.{time-within, time-spells}
+use Rattle.time_writer.proofs.Within.{fractionIn, time-within}
+use Rattle.time_writer.proofs.Laws.{time-spells}
 
 -- ---- digits are told by their number and how many they are
 
@@ -149,14 +150,14 @@ kept u z mi se s at c n e =
     go o (there k eo r) = rw (← eo) (point-kept u z mi se s at k n r)
 
 abbrev clockIn : Time → Clock
-clockIn t = record { minute = t .minute; second = t .second; fraction = record { nanosecond = t .nanosecond; digits = t .digits } }
+clockIn t = record { minute = t .minute; second = t .second; fraction = fractionIn t }
 
 -- the fraction of a time that was read: it is written as nothing; or the text has a comma or point somewhere, and the fraction is written as a
 -- point and the first nine digits behind it; or, in the standard reading alone, these digits were counted, as a fraction of a minute or an hour
 pub data TextsOwn (r : Reading) (s : List ℕ) (t : Time) : Type 0 where
   without : fractionSpelling (t .digits) (t .nanosecond) ≡ [] → TextsOwn r s t
   from : (at : ℕ) → either 44 46 .reads s at ≡ got tt (at + 1) → fractionSpelling (t .digits) (t .nanosecond) ≡ 46 ∷ take 9 (runAt s (at + 1)) → TextsOwn r s t
-  counted : r ≡ Standard → (u : TimeUnit) → (u ≡ Second → ⊥) → (at mi se : ℕ) → either 44 46 .reads s at ≡ got tt (at + 1) → clockOf u mi se (fractionOf (runAt s (at + 1))) ≡ clockIn t → TextsOwn r s t
+  of-unit : r ≡ Standard → (u : TimeUnit) → (u ≡ Second → ⊥) → (at mi se : ℕ) → either 44 46 .reads s at ≡ got tt (at + 1) → clockOf u mi se (fractionOf (runAt s (at + 1))) ≡ clockIn t → TextsOwn r s t
 
 no-fraction-own : (r : Reading) (s : List ℕ) (h : ℕ) (c : Clock) (o : Option Offset) → noFraction ≡ c .fraction → TextsOwn r s (timeOf h c o)
 unfolding fractionSpelling
@@ -165,7 +166,7 @@ no-fraction-own r s h c o e = without (rw (← e))
 keeps-own : (r : Reading) (u : TimeUnit) (mi se : ℕ) (s : List ℕ) (at : ℕ) (c : Clock) (n : ℕ) (h : ℕ) (o : Option Offset) → ((u ≡ Second → ⊥) → r ≡ Standard) → Keeps u mi se s at c n → TextsOwn r s (timeOf h c o)
 keeps-own r u mi se s at c n h o standard (nothing here e) = no-fraction-own r s h c o e
 keeps-own r u mi se s at c n h o standard (digits-at point ends is) = from at point is
-keeps-own r u mi se s at c n h o standard (counted other point ends is) = counted (standard other) u other at mi se point is
+keeps-own r u mi se s at c n h o standard (counted other point ends is) = of-unit (standard other) u other at mi se point is
 
 -- a fraction is of a second, or the reading is the standard one
 not-old : (r : Reading) (se : Option ℕ) → (unitOf r se ≡ Second → ⊥) → r ≡ Standard

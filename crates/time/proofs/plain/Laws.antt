@@ -32,9 +32,8 @@ use Rattle.looks.proofs.Two.{two-is, two-field, preceded-two, digit-no}
 use Rattle.looks.proofs.Thousandths.{milliseconds, three-end, three-other}
 use Rattle.offset.specs.Rules.{offset}
 use Rattle.offset.proofs.plain.Laws.{Starts, zulu, sign, end-says, plain-end, plain-read}
-use Rattle.time.specs.declared.Clock.{Clock}
 use Rattle.time.specs.declared.TimeUnit.the-variants.{Second}
-use Rattle.time.specs.Rules.{hourOf, endsDay, noFraction, orWhole, unitOf, timeFraction, millisecond, secondMillisecond, minuteSecondMillisecond, behindHour, timeOf, timeOffset, afterHour, baseTime, time}
+use Rattle.time.specs.Rules.{hourOf, endsDay, noFraction, orWhole, unitOf, clockOf, timeFraction, millisecond, secondMillisecond, minuteSecondMillisecond, behindHour, timeOf, timeOffset, afterHour, baseTime, time}
 use Rattle.time.specs.Plain.{timeWith, withOffset, plainTime, firstPlain}
 use Rattle.time.specs.declared.plain.PlainTime.{PlainTime}
 use Rattle.time.specs.declared.plain.PlainTime.the-variants as time
@@ -51,9 +50,6 @@ record SameTime (t u : Time) (k n : ℕ) (l m : Bool) : Type 0 where
 time-once : {t u : Time} {k n : ℕ} {l m : Bool} → time.Got t k l ≡ time.Got u n m → SameTime t u k n l m
 time-once e = record { value = cc; next = cc; more = cc }
 
-abbrev clockWith : ℕ → ℕ → Fraction → Clock
-clockWith m x n = record { minute = m; second = x; fraction = n }
-
 -- ---- what stands behind a plain time
 
 data Behind (s : List ℕ) (at : ℕ) : Bool → Type 0 where
@@ -62,7 +58,7 @@ data Behind (s : List ℕ) (at : ℕ) : Bool → Type 0 where
 
 record Tail (s : List ℕ) (at h m x : ℕ) (n : Fraction) (t : Time) (next : ℕ) (more : Bool) : Type 0 where
   behind : Behind s at more
-  says : Says (timeOffset h (clockWith m x n)) s at (got t next) more
+  says : Says (timeOffset h (clockOf Second m x n)) s at (got t next) more
 
 tail : (s : List ℕ) (at h m x : ℕ) (n : Fraction) (t : Time) (next : ℕ) (more : Bool) → withOffset h m x n at (plainOffset s at) ≡ time.Got t next more → Tail s at h m x n t next more
 unfolding timeOffset
@@ -72,12 +68,12 @@ tail s at h m x n t next more e = go (plainOffset s at) refl e
     go shift.End i e =
         let l = plain-end s at i in
         let y = time-once e in
-        let r : Tail s at h m x n (timeWith h m x n Absent) at true = record { behind = end l; says = says-map (opt offset) s at (timeOf h (clockWith m x n)) _ true (says-opt offset s at no true (end-says s at l)) } in
+        let r : Tail s at h m x n (timeWith h m x n Absent) at true = record { behind = end l; says = says-map (opt offset) s at (timeOf h (clockOf Second m x n)) _ true (says-opt offset s at no true (end-says s at l)) } in
         rw (← y .value, ← y .next, ← y .more) r
     go (shift.Got o k) i e =
         let r = plain-read s at o k i in
         let y = time-once e in
-        let z : Tail s at h m x n (timeWith h m x n (Given o)) k false = record { behind = byte (r .inside) (r .starts); says = says-map (opt offset) s at (timeOf h (clockWith m x n)) _ false (says-opt offset s at (got o k) false (r .says)) } in
+        let z : Tail s at h m x n (timeWith h m x n (Given o)) k false = record { behind = byte (r .inside) (r .starts); says = says-map (opt offset) s at (timeOf h (clockOf Second m x n)) _ false (says-opt offset s at (got o k) false (r .says)) } in
         rw (← y .value, ← y .next, ← y .more) z
     go shift.Other i e = absurd (no-time e)
 
@@ -94,9 +90,9 @@ module _ (s : List ℕ) (at mi se : ℕ) where
   no-point more (byte l (sign true e)) = let i = lt-ltb at (length s) l in record { found = simp (i, e); more = simp (i, e) }
   no-point more (byte l (sign false e)) = let i = lt-ltb at (length s) l in record { found = simp (i, e); more = simp (i, e) }
 
-  none-says : (more : Bool) → Behind s at more → Says (millisecond Second false mi se) s at (got (clockWith mi se noFraction) at) more
+  none-says : (more : Bool) → Behind s at more → Says (millisecond Second false mi se) s at (got (clockOf Second mi se noFraction) at) more
   unfolding millisecond timeFraction
-  none-says more b = says-map (opt (map (clockWith mi se) point)) s at (orWhole mi se) _ more (says-opt (map (clockWith mi se) point) s at no more (says-map point s at (clockWith mi se) no more (says-seq-no (either 44 46) s at (λ _. fraction) more (no-point more b))))
+  none-says more b = says-map (opt (map (clockOf Second mi se) point)) s at (orWhole mi se) _ more (says-opt (map (clockOf Second mi se) point) s at no more (says-map point s at (clockOf Second mi se) no more (says-seq-no (either 44 46) s at (λ _. fraction) more (no-point more b))))
 
   -- what was seen of a point and three digits
   record Point (ms : ℕ) : Type 0 where
@@ -144,11 +140,11 @@ module _ (s : List ℕ) (at mi se : ℕ) where
       by-end more (end l) = rw (p, q, r) at (three-end s (at + 1) (omega (arith, x .long)) (x .first) (rw (p, q) (x .rest)) (omega (arith, l)))
       by-end more (byte l e) = rw (p, q, r) at (three-other s (at + 1) (omega (arith, x .long)) (x .first) (rw (p, q) (x .rest)) (rw r (other l e)))
 
-  some-says : (ms : ℕ) → Point ms → (more : Bool) → Behind s (at + 4) more → Says (millisecond Second false mi se) s at (got (clockWith mi se (milliseconds ms)) (at + 4)) more
+  some-says : (ms : ℕ) → Point ms → (more : Bool) → Behind s (at + 4) more → Says (millisecond Second false mi se) s at (got (clockOf Second mi se (milliseconds ms)) (at + 4)) more
   unfolding millisecond timeFraction
   some-says ms x more b =
-      says-map (opt (map (clockWith mi se) point)) s at (orWhole mi se) _ more
-      (says-opt (map (clockWith mi se) point) s at _ more (says-map point s at (clockWith mi se) _ more (says-seq-got (either 44 46) s at (λ _. fraction) tt (at + 1) false _ more (point-says x) (digits-say ms x more b))))
+      says-map (opt (map (clockOf Second mi se) point)) s at (orWhole mi se) _ more
+      (says-opt (map (clockOf Second mi se) point) s at _ more (says-map point s at (clockOf Second mi se) _ more (says-seq-got (either 44 46) s at (λ _. fraction) tt (at + 1) false _ more (point-says x) (digits-say ms x more b))))
 
 -- ---- the clock
 
@@ -224,17 +220,17 @@ module _ (s : List ℕ) (at h m x : ℕ) where
         let r : at + 5 + 3 ≡ at + 8 = omega arith in
         rw (p, q, r, y .last) at (preceded-two s (at + 5) 58 0 60 (omega (arith, y .long)) (y .second) refl (rw (p, q) (y .seconds)))
 
-    base-says : (c : Choices) (n : Fraction) (place : ℕ) (t : Time) (next : ℕ) (more : Bool) → Says (millisecond Second false m x) s (at + 8) (got (clockWith m x n) place) more → Tail s place h m x n t next more → Says (baseTime c) s at (got t next) more
+    base-says : (c : Choices) (n : Fraction) (place : ℕ) (t : Time) (next : ℕ) (more : Bool) → Says (millisecond Second false m x) s (at + 8) (got (clockOf Second m x n) place) more → Tail s place h m x n t next more → Says (baseTime c) s at (got t next) more
     unfolding baseTime afterHour minuteSecondMillisecond secondMillisecond
     base-says c n place t next more f b =
         let r = c .reading in
         rw (or-same more) at
         (says-seq-got (hourOf (c .edition)) s at (λ h. afterHour r (endsDay (c .edition) h) h) h (at + 2) false (got t next) (or more more) (hour-of (c .edition))
         (rw (no-end (c .edition))
-        (says-seq-got (opt (behindHour r false)) s (at + 2) (λ c. timeOffset h (orWhole 0 0 c)) (some (clockWith m x n)) place more (got t next) more
-        (says-opt (behindHour r false) s (at + 2) (got (clockWith m x n) place) more
-        (behind-first false s (at + 2) r (got (clockWith m x n) place) more refl
-        (says-seq-got (precededBy 58 minute) s (at + 2) (secondMillisecond r false) m (at + 5) false (got (clockWith m x n) place) more minute-says
+        (says-seq-got (opt (behindHour r false)) s (at + 2) (λ c. timeOffset h (orWhole 0 0 c)) (some (clockOf Second m x n)) place more (got t next) more
+        (says-opt (behindHour r false) s (at + 2) (got (clockOf Second m x n) place) more
+        (behind-first false s (at + 2) r (got (clockOf Second m x n) place) more refl
+        (says-seq-got (precededBy 58 minute) s (at + 2) (secondMillisecond r false) m (at + 5) false (got (clockOf Second m x n) place) more minute-says
         (says-seq-got (opt (precededBy 58 second)) s (at + 5) (λ se. millisecond (unitOf r se) false m (orZero se)) (some x) (at + 8) false _ more (says-opt (precededBy 58 second) s (at + 5) _ false second-says) (rw (of-second r x) f)))))
         (b .says))))
 

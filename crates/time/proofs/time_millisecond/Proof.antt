@@ -9,7 +9,7 @@ use Rattle.parser.proofs.Says.{or-false, or-true, says-opt, says-on, on-map}
 use Rattle.time.specs.declared.Clock.{Clock}
 use Rattle.time.specs.declared.TimeUnit.{TimeUnit}
 use Rattle.time.specs.Rules.{orWhole, timeFraction, millisecond}
-use Rattle.time.proofs.Unmarked.{mark, no-point}
+use Rattle.time.proofs.Unmarked.{mark, no-fraction}
 use borrow.Author.Needs.{needs}
 use Rattle.time.proofs.time_millisecond.Statement.{statement}
 use Rattle.time.proofs.time_millisecond.Tie as tie
@@ -23,7 +23,7 @@ module _ (u : TimeUnit) (z : Bool) (mi se : ℕ) (s : List ℕ) (at : ℕ) (b m 
 
 -- where the fraction stops the reading nothing was left open
 not-open : (u : TimeUnit) (z : Bool) (mi se : ℕ) (s : List ℕ) (at : ℕ) (b : Bool) → (b ≡ true → mark .reads s at ≡ no) → Says (timeFraction u z mi se) s at (stop 1) false → false ≡ or b false
-not-open u z mi se s at true h k = absurd (no≢stop (sym (no-point u z mi se s at (h refl)) ∙ sym (k .found)))
+not-open u z mi se s at true h k = absurd (no≢stop (sym (no-fraction u z mi se s at (h refl)) ∙ sym (k .found)))
 not-open u z mi se s at false h k = refl
 
 returns : tie.Need-returns

@@ -9,7 +9,7 @@ use Rattle.types.specs.declared.Edition.{Edition}
 use Rattle.types.specs.declared.Edition.the-variants.{E2004, E2019}
 use Rattle.types.specs.declared.Time.{Time}
 use Rattle.time_writer.specs.Ranges.{lastHour, behindGiven, clockGiven}
-use Rattle.time_writer.proofs.Laws.{last-small}
+use Rattle.time_writer.proofs.Within.{last-small}
 use Rattle.time_writer.proofs.clock_given.Statement.{statement}
 use Rattle.time_writer.proofs.clock_given.Tie as tie
 
