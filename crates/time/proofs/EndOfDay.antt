@@ -1,7 +1,7 @@
 -- Behind the hour that ends the day the rule reads as behind any other hour, or stops the reading; and where it is open it has a value now.
 -- So where it is open, a few bytes more are read to the last one or stop the reading.
 use Prim.Native.Nat.{ℕ}
-use mathlib.Core.List.{List, []}
+use mathlib.Core.List.{List}
 use mathlib.Core.Bool.{Bool, true, false}
 use mathlib.Core.Option.{Option, some, none}
 use mathlib.Core.Path.{_≡_, refl, sym, _∙_}

@@ -20,7 +20,7 @@ use Rattle.types.specs.declared.Time.{Time}
 use Rattle.types.specs.declared.TimeOffset.{TimeOffset}
 use Rattle.types.specs.declared.TimeOffset.the-variants.{Absent, Given}
 use Rattle.parser.specs.Reading.{lit, opt, pick}
-use Rattle.parser.specs.Digits.{isDigit, field, digits, number, fractionOf}
+use Rattle.parser.specs.Digits.{isDigit, field, fractionOf}
 use Rattle.parser.specs.Fields.{precededBy}
 use Rattle.offset.specs.Rules.{offset, offsetHour, offsetZulu}
 use Rattle.time.specs.declared.Clock.{Clock}

@@ -1,8 +1,6 @@
 -- The ranges of a time, by the hour: what the code tests, field by field.
 use Prim.Native.Nat.{ℕ, _%_, _≤_}
-use mathlib.Core.List.{[]}
 use mathlib.Core.Bool.{Bool, true, false}
-use mathlib.Core.Option.{none}
 use mathlib.Core.Path.{_≡_, refl}
 use native.Mathlib.Omega.{arith}
 use borrow.Author.Tests.{leb-true, eqb-true}
@@ -12,9 +10,8 @@ use Rattle.types.specs.declared.Edition.{Edition}
 use Rattle.types.specs.declared.Edition.the-variants.{E2004, E2019}
 use Rattle.types.specs.declared.Fraction.{Fraction}
 use Rattle.types.specs.declared.Time.{Time}
-use Rattle.parser.specs.Digits.{field, digits}
+use Rattle.parser.specs.Digits.{field}
 use Rattle.parser.proofs.Fields.{and-first, and-second}
-use Rattle.offset.specs.Rules.{offset}
 use Rattle.time.specs.Rules.{hourOf, endsDay, noFraction}
 use Rattle.time_writer.specs.Ranges.{timeOffsetGiven, lastHour, upTo, fractionGiven, clockGiven, timeGiven}
 use Rattle.time_writer.proofs.Nine.{FractionWithin, fraction-day}

@@ -1,7 +1,6 @@
 -- What is read as a time lies in the ranges of its edition, in either reading: what is counted stays below an hour, and is nothing where all
 -- has to be 0.
 use Prim.Native.Nat.{ℕ, _+_, _*_, _/_, _%_, _≤_}
-use mathlib.Core.List.{[]}
 use mathlib.Core.Bool.{Bool, true, false}
 use mathlib.Core.Option.{Option, some, none}
 use mathlib.Core.Path.{_≡_, refl}
