@@ -20,6 +20,8 @@ pub struct Kind {
     pub read: fn(&[u8]) -> Outcome,
     /// A text with one of these bytes is not compared.
     pub skip: &'static [u8],
+    /// Nor is a text for which this holds: it has a number that is too wide for the original.
+    pub wide: fn(&[u8]) -> bool,
     /// The bytes that the rules name, among the digits those next to a limit, and one that no rule
     /// names.
     pub alphabet: &'static [u8],
@@ -39,6 +41,7 @@ pub static KINDS: [Kind; 5] = [
         name: "date",
         read: |text| outcome(date::date, date::parse_date, date_words, text),
         skip: b"",
+        wide: |_| false,
         alphabet: b"0123456789-WTx",
         spellings: &[
             "2015-11-02", "20151102", "2015-1102", "201511-02", "2015-11", "2015-11-32",
@@ -65,6 +68,7 @@ pub static KINDS: [Kind; 5] = [
         name: "time",
         read: |text| outcome(time::time, time::parse_time, time_words, text),
         skip: b"",
+        wide: |_| false,
         alphabet: b"0123569:.,+-ZTx",
         spellings: &[
             "21:56:42", "215642", "21:5642", "2156:42", "21:56", "2156", "21", "T21:56:42", "T21",
@@ -90,6 +94,7 @@ pub static KINDS: [Kind; 5] = [
         name: "offset",
         read: |text| outcome(offset::offset, offset::parse_offset, offset_words, text),
         skip: b"",
+        wide: |_| false,
         alphabet: b"0123569+-:Zx",
         spellings: &[
             "", "Z", "ZZ", "z", "+01:00", "+0100", "+01", "-01:30", "-0130", "-01", "-00", "-00:00",
@@ -108,6 +113,7 @@ pub static KINDS: [Kind; 5] = [
         name: "date-time",
         read: |text| outcome(datetime::datetime, datetime::parse_datetime, datetime_words, text),
         skip: b"",
+        wide: |_| false,
         alphabet: b"0123569-W:T.,+Zx",
         spellings: &[
             "2015-11-02T21:56:42", "20151102T215642", "2015-11-02T21:56:4", "2015-11-02T21",
@@ -135,6 +141,7 @@ pub static KINDS: [Kind; 5] = [
         read: |text| outcome(duration::duration, duration::parse_duration, duration_words, text),
         // How the original reads a part's fraction is not in the files at hand; see stand-ins.rs.
         skip: b",.",
+        wide: tries_wide_run,
         alphabet: b"019PYMWDTHSx",
         spellings: &[
             "P1Y2M3DT4H5M6S", "P1Y2M3W4DT5H6M7S", "P1Y", "P2M", "P3W", "P4D", "PT5H", "PT6M",
@@ -154,10 +161,45 @@ pub static KINDS: [Kind; 5] = [
         ],
         grown: &[
             "P####Y", "PT##H##M##S", "P##M##M", "P42949#####S", "P******", "P1Y*****", "PT*****",
-            "*****",
+            "*****", "P429496729***", "P1Y429496729**", "P1844674407370955161***",
         ],
     },
 ];
+
+/// Whether a duration part is tried at a digit run above 4,294,967,295. The original panics there,
+/// and we gave refusal 2 until W9, which has wider runs and compares none of them.
+///
+/// It is seen from the text alone. Behind the `P` stand runs, each with the letter of a part that
+/// is still to come, and perhaps one `T`; a part is tried at the run behind each of these, but not
+/// behind an `S`.
+fn tries_wide_run(text: &[u8]) -> bool {
+    let Some(mut rest) = text.strip_prefix(b"P") else {
+        return false;
+    };
+    let mut to_come: &[u8] = b"YMWDTHMS";
+    while !to_come.is_empty() {
+        let digits = rest.iter().take_while(|byte| byte.is_ascii_digit()).count();
+        let (run, behind) = rest.split_at(digits);
+        if is_wide(run) {
+            return true;
+        }
+        let place = |letter| to_come.iter().position(|byte| *byte == letter);
+        match behind.first().and_then(|letter| place(*letter)) {
+            // A `T` stands behind no run, every other letter behind one.
+            Some(place) if run.is_empty() == (to_come[place] == b'T') => {
+                (rest, to_come) = (&behind[1..], &to_come[place + 1..]);
+            }
+            _ => return false,
+        }
+    }
+    false
+}
+
+fn is_wide(run: &[u8]) -> bool {
+    let zeros = run.iter().take_while(|byte| **byte == b'0').count();
+    let (number, limit): (&[u8], &[u8]) = (&run[zeros..], b"4294967295");
+    (number.len(), number) > (limit.len(), limit)
+}
 
 /// What both of the original's readers make of a text. Where the text is UTF-8, `whole` is the
 /// original's public function on strings; elsewhere it is that function's body on bytes.
@@ -239,7 +281,9 @@ fn duration_words(d: &Duration) -> String {
         .zip(worth)
         .map(|(part, worth)| u64::from(*part) * worth)
         .sum();
-    // The original sums in 32 bits, so its own sum has a meaning only where the exact one fits.
+    // Seven runs of 32 bits never bring the sum to 2^64: `over`, which ours prints above that, is
+    // in no answer that is compared. The original sums in 32 bits, so its own sum has a meaning
+    // only where the exact one fits.
     if seconds < 1 << 32 {
         let own = std::time::Duration::from(*d).as_secs();
         assert_eq!(own, seconds, "the original's own sum of seconds of {d:?}");

@@ -47,7 +47,8 @@ fn sample() -> Result<u8> {
     let mut lines = String::new();
     for kind in &KINDS {
         for text in inputs::sample(kind) {
-            if let (false, Outcome::Answered(words)) = (skipped(kind, &text), (kind.read)(&text)) {
+            let apart = skipped(kind, &text) || (kind.wide)(&text);
+            if let (false, Outcome::Answered(words)) = (apart, (kind.read)(&text)) {
                 let hex: String = text.iter().map(|byte| format!("{byte:02x}")).collect();
                 lines += &format!("{} {hex}\t{words}\n", kind.letter);
             }
@@ -63,9 +64,13 @@ fn skipped(kind: &Kind, text: &[u8]) -> bool {
 
 fn against(program: &str, arguments: &[&str]) -> Result<u8> {
     println!("compared: number and count of both readers, and the record but for a time's digits");
-    println!("panicked: outside the domain; `too big` are those of them to which ours answers 2");
+    println!(
+        "wide:     durations with a part tried at a run above 4,294,967,295: the original panics;"
+    );
+    println!("          `too big` are those of them to which ours answers 2");
+    println!("panicked: other inputs on which the original panics, outside the domain");
     println!("skipped:  durations with a comma or a point");
-    println!("            compared    differ  panicked   too big   skipped");
+    println!("            compared    differ      wide   too big  panicked   skipped");
     let mut total = Tally::default();
     for kind in &KINDS {
         let tally = compare(kind, program, arguments)?;
@@ -128,8 +133,9 @@ fn compare(kind: &'static Kind, program: &str, arguments: &[&str]) -> Result<Tal
 struct Tally {
     compared: u64,
     differ: u64,
-    panicked: u64,
+    wide: u64,
     too_big: u64,
+    panicked: u64,
     skipped: u64,
 }
 
@@ -140,12 +146,20 @@ impl Tally {
             return;
         }
         let answer = without_ours(ours);
-        match (kind.read)(text) {
-            Outcome::Panicked => {
-                self.panicked += 1;
+        match ((kind.wide)(text), (kind.read)(text)) {
+            (true, Outcome::Panicked) => {
+                self.wide += 1;
                 self.too_big += u64::from(answer.as_deref() == Some("2 0 2 0 -"));
             }
-            Outcome::Answered(words) => {
+            // What the original reads is compared: the rule for wide runs hides nothing.
+            (true, Outcome::Answered(words)) => {
+                let text = text.escape_ascii();
+                self.differs(&format!(
+                    "\"{text}\" isn't wide: the original reads {words}"
+                ));
+            }
+            (false, Outcome::Panicked) => self.panicked += 1,
+            (false, Outcome::Answered(words)) => {
                 self.compared += 1;
                 if answer.as_ref() != Some(&words) {
                     let text = text.escape_ascii();
@@ -166,8 +180,9 @@ impl Tally {
     fn add(&mut self, other: &Tally) {
         self.compared += other.compared;
         self.differ += other.differ;
-        self.panicked += other.panicked;
+        self.wide += other.wide;
         self.too_big += other.too_big;
+        self.panicked += other.panicked;
         self.skipped += other.skipped;
     }
 
@@ -175,11 +190,12 @@ impl Tally {
         let Tally {
             compared,
             differ,
-            panicked,
+            wide,
             too_big,
+            panicked,
             skipped,
         } = self;
-        println!("{name:9} {compared:10}{differ:10}{panicked:10}{too_big:10}{skipped:10}");
+        println!("{name:9} {compared:10}{differ:10}{wide:10}{too_big:10}{panicked:10}{skipped:10}");
     }
 }
 

@@ -9,7 +9,7 @@
  *
  *     TIROZHBAR_RECORD            0  a record
  *     TIROZHBAR_NO_FORM           1  the bytes begin with no such form
- *     TIROZHBAR_TOO_BIG           2  a number of a duration is above 4294967295
+ *     TIROZHBAR_TOO_BIG           2  a number of a duration is above 18446744073709551615
  *     TIROZHBAR_LEFT_OVER         3  tirozhbar_parse_* alone: a record, but bytes are left over
  *     TIROZHBAR_NO_SUCH_CHOICE  254  CHOICES names none; nothing was written
  *     TIROZHBAR_TOO_FEW         255  ROOM is below the kind's number of slots; nothing was written
@@ -133,7 +133,8 @@ enum {
     TIROZHBAR_DATETIME_SLOTS = 14
 };
 
-/* A duration. An absent part is 0. */
+/* A duration. An absent part is 0. A number has 64 bits and no sign, and its slot has the same bits: it is (uint64_t)slots[i], and a
+ * writer is handed (int64_t)n. A slot that is below 0 is a number from 9223372036854775808 on, so that every seven slots hold a duration. */
 enum {
     TIROZHBAR_DURATION_YEARS = 2,
     TIROZHBAR_DURATION_MONTHS = 3,
@@ -176,7 +177,7 @@ enum {
     TIROZHBAR_TIME_LONGEST = 24,
     TIROZHBAR_DATE_LONGEST = 11,
     TIROZHBAR_DATETIME_LONGEST = 36,
-    TIROZHBAR_DURATION_LONGEST = 79
+    TIROZHBAR_DURATION_LONGEST = 149
 };
 
 /* Z, or a sign and HH:MM. 4 slots. */

@@ -25,12 +25,12 @@ pushes-append st (b ∷ p) q = pushes-append (pushOne st b) p q
 abbrev pub counts : State → ℕ → State
 counts st n = record { kind = st .kind; kept = st .kept; places = st .places; len = st .len; mark = st .mark; accepted = st .accepted + n }
 
-pub pushes-full : (st : State) (p : List ℕ) → 80 ≤ st .len → pushes st p ≡ counts st (length p)
+pub pushes-full : (st : State) (p : List ℕ) → 150 ≤ st .len → pushes st p ≡ counts st (length p)
 unfolding pushes pushOne
 pushes-full st [] h = rw add-zero
 pushes-full st (b ∷ p) h =
     let e : st .accepted + suc (length p) ≡ st .accepted + 1 + length p = omega arith in
-    rw (le-ltb (st .len) 80 h, e) (pushes-full (counted st) p h)
+    rw (le-ltb (st .len) 150 h, e) (pushes-full (counted st) p h)
 
 -- a byte leaves the kind, and is counted
 pick-same : {A : Type 0} (f : State → A) (x : A) (a b : State) (t : Bool) → f a ≡ x → f b ≡ x → f (pick t a b) ≡ x
@@ -39,11 +39,11 @@ pick-same f x a b false p q = q
 
 pub one-kind : (st : State) (b : ℕ) → pushOne st b .kind ≡ st .kind
 unfolding pushOne
-one-kind st b = pick-same (λ (so : State). so .kind) _ _ _ (ltb (st .len) 80) (pick-same (λ (so : State). so .kind) _ _ _ (joins st b) refl refl) refl
+one-kind st b = pick-same (λ (so : State). so .kind) _ _ _ (ltb (st .len) 150) (pick-same (λ (so : State). so .kind) _ _ _ (joins st b) refl refl) refl
 
 one-count : (st : State) (b : ℕ) → pushOne st b .accepted ≡ st .accepted + 1
 unfolding pushOne
-one-count st b = pick-same (λ (so : State). so .accepted) _ _ _ (ltb (st .len) 80) (pick-same (λ (so : State). so .accepted) _ _ _ (joins st b) refl refl) refl
+one-count st b = pick-same (λ (so : State). so .accepted) _ _ _ (ltb (st .len) 150) (pick-same (λ (so : State). so .accepted) _ _ _ (joins st b) refl refl) refl
 
 -- the state after the first i bytes of a piece
 pub record Pushed (st : State) (piece : List ℕ) (so : State) (i : ℕ) : Type 0 where
@@ -61,7 +61,7 @@ module _ (st : State) (piece : List ℕ) (so : State) (i : ℕ) (g : Pushed st p
   pub pushed-all : length piece ≤ i → counts so (length piece - i) ≡ pushes st piece
   pushed-all h = let none : so .accepted + (length piece - i) ≡ so .accepted = omega arith in rw (none, ← (take-all i piece h)) (g .is)
 
-  pub pushed-full : 80 ≤ so .len → counts so (length piece - i) ≡ pushes st piece
+  pub pushed-full : 150 ≤ so .len → counts so (length piece - i) ≡ pushes st piece
   pushed-full h = cc (length-drop i piece, pushes-full so (drop i piece) h, pushes-append st (take i piece) (drop i piece), take-append-drop i piece)
 
   module _ (h : i < length piece) where
@@ -74,7 +74,7 @@ module _ (st : State) (piece : List ℕ) (so : State) (i : ℕ) (g : Pushed st p
       is = rw (add-one, take-suc piece i 0, pushes-append, ← (g .is));
     }
 
-    module _ (m : ℕ) (me : m ≡ nextMark (dropsZeros (so .kind)) (so .mark) (getD piece i 0)) (room : so .len < 80) where
+    module _ (m : ℕ) (me : m ≡ nextMark (dropsZeros (so .kind)) (so .mark) (getD piece i 0)) (room : so .len < 150) where
       pub pushed-joined : (byte : ℕ) → byte ≡ joined (getD (so .kept) (so .len - 1) 0) (getD piece i 0) → joins so (getD piece i 0) ≡ true → Pushed st piece (keptAt so (so .len - 1) byte (so .len) m) (i + 1)
       unfolding pushOne
       pushed-joined byte e j = rw (e, me) (rw (lt-ltb _ _ room, j) at pushed-one)
@@ -171,7 +171,7 @@ runs so byte m n = record {
   accepted = so .accepted + n;
 }
 
-module _ (st : State) (piece : List ℕ) (so : State) (i byte : ℕ) (some : 0 < so .len) (room : so .len < 80) where
+module _ (st : State) (piece : List ℕ) (so : State) (i byte : ℕ) (some : 0 < so .len) (room : so .len < 150) where
   -- one zero more
   run-more : (n : ℕ) → Pushed st piece (runs so byte 11 n) (i + n) → ZeroAt piece (i + n) → Pushed st piece (runs so byte 11 (suc n)) (i + suc n)
   run-more n g z =
@@ -184,7 +184,7 @@ module _ (st : State) (piece : List ℕ) (so : State) (i byte : ℕ) (some : 0 <
       let at : i + suc n ≡ i + n + 1 = omega arith in
       rw (a, b, at) (rw (set-getD (set (so .kept) last byte) last 0, set-set (so .places) last (so .accepted + n - 1) (so .accepted + n)) at next)
 
-module _ (st : State) (piece : List ℕ) (so : State) (i : ℕ) (g : Pushed st piece so i) (h : i < length piece) (room : so .len < 80) (m byte : ℕ) (me : m ≡ nextMark (dropsZeros (so .kind)) (so .mark) (getD piece i 0)) (be : byte ≡ joined (getD (so .kept) (so .len - 1) 0) (getD piece i 0)) (j : joins so (getD piece i 0) ≡ true) where
+module _ (st : State) (piece : List ℕ) (so : State) (i : ℕ) (g : Pushed st piece so i) (h : i < length piece) (room : so .len < 150) (m byte : ℕ) (me : m ≡ nextMark (dropsZeros (so .kind)) (so .mark) (getD piece i 0)) (be : byte ≡ joined (getD (so .kept) (so .len - 1) 0) (getD piece i 0)) (j : joins so (getD piece i 0) ≡ true) where
   run-mark : 1 < zeroRun (drop i piece) → m ≡ 11
   run-mark z =
       let first : getD piece i 0 ≡ 48 = rw add-zero at (zero-at piece i 0 (omega arith) .zero) in

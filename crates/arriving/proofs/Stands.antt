@@ -29,7 +29,7 @@ use Rattle.arriving.proofs.Joined.{family, first, Joins, tidy-snoc, joi
 abbrev zerosOf : State → Bool
 zerosOf st = dropsZeros (st .kind)
 
-rule-trims : (k : Kind) → Trims (family (dropsZeros k)) 79 (ruleOf k)
+rule-trims : (k : Kind) → Trims (family (dropsZeros k)) 149 (ruleOf k)
 rule-trims kind.Date = trims kind.Date
 rule-trims (kind.Time c) = trims (kind.Time c)
 rule-trims kind.Offset = trims kind.Offset
@@ -38,9 +38,9 @@ rule-trims kind.Duration = trims kind.Duration
 
 pub record Stands (st : State) (s : List ℕ) : Type 0 where
   pub accepted : st .accepted ≡ length s
-  pub size : length (st .kept) ≡ 80
-  pub sizes : length (st .places) ≡ 80
-  pub few : st .len ≤ 80
+  pub size : length (st .kept) ≡ 150
+  pub sizes : length (st .places) ≡ 150
+  pub few : st .len ≤ 150
   pub tidies : tidy (zerosOf st) (first (zerosOf st)) (textOf st) ≡ true
   pub mark : st .mark ≡ marked (zerosOf st) (first (zerosOf st)) (textOf st)
   pub rises : Rises (over st)
@@ -56,8 +56,8 @@ pub start-stands : (k : Kind) → Stands (started k) []
 unfolding tidy marked
 start-stands k = record {
   accepted = refl;
-  size = length-replicate {A = ℕ} 80 0;
-  sizes = length-replicate {A = ℕ} 80 0;
+  size = length-replicate {A = ℕ} 150 0;
+  sizes = length-replicate {A = ℕ} 150 0;
   few = omega arith;
   tidies = refl;
   mark = refl;
@@ -71,7 +71,7 @@ start-stands k = record {
 reads-on : (st : State) (s : List ℕ) (b : ℕ) → Stands st s → (x : List ℕ) → ruleOf (st .kind) .reads ((s ++ b ∷ []) ++ x) 0 ≡ moved (over st) (ruleOf (st .kind) .reads (textOf st ++ b ∷ x) 0)
 reads-on st s b h x = rw (append-assoc s (b ∷ []) x) (h .reads (b ∷ x))
 
-module _ (st : State) (s : List ℕ) (b m : ℕ) (h : Stands st s) (room : st .len < 80) where
+module _ (st : State) (s : List ℕ) (b m : ℕ) (h : Stands st s) (room : st .len < 150) where
   abbrev longer : State
   longer = keptAt st (st .len) b (st .len + 1) m
 
@@ -128,7 +128,7 @@ module _ (st : State) (s : List ℕ) (b m i : ℕ) (h : Stands st s) (last : st 
 
   pub joined-stands : st .mark ≡ 11 → isDigit b ≡ true → m ≡ nextMark (zerosOf st) 11 b → Stands same (s ++ b ∷ [])
   joined-stands full is e =
-      let j = joins-law (zerosOf st) rule 79 (rule-trims (st .kind)) (take i (st .kept)) c b (rw (← text-last) (h .tidies)) (rw (← text-last) (sym (h .mark) ∙ full)) is in
+      let j = joins-law (zerosOf st) rule 149 (rule-trims (st .kind)) (take i (st .kept)) c b (rw (← text-last) (h .tidies)) (rw (← text-last) (sym (h .mark) ∙ full)) is in
       record {
         accepted = omega (arith, h .accepted, length-append s (b ∷ []));
         size = length-set (st .kept) i (joined c b) ∙ h .size;
@@ -140,13 +140,13 @@ module _ (st : State) (s : List ℕ) (b m i : ℕ) (h : Stands st s) (last : st 
         reads = joined-reads j;
       }
 
--- ---- full is settled: a tidy text of 80 bytes is open nowhere, and what comes after it is only counted
+-- ---- full is settled: a tidy text of 150 bytes is open nowhere, and what comes after it is only counted
 
 proper : (z : Bool) (s : List ℕ) → Proper (family z) s 0
 proper true s = refl
 proper false s = tt
 
-pub full-closed : (st : State) (s : List ℕ) → Stands st s → 80 ≤ st .len → ruleOf (st .kind) .more (textOf st) 0 ≡ false
+pub full-closed : (st : State) (s : List ℕ) → Stands st s → 150 ≤ st .len → ruleOf (st .kind) .more (textOf st) 0 ≡ false
 full-closed st s h full = go (ruleOf (st .kind) .more (textOf st) 0) refl
   where
     go : (m : Bool) → ruleOf (st .kind) .more (textOf st) 0 ≡ m → m ≡ false
@@ -156,7 +156,7 @@ full-closed st s h full = go (ruleOf (st .kind) .more (textOf st) 0) refl
         let near = rule-trims (st .kind) .within (textOf st) (tidy-normal (zerosOf st) (textOf st) (h .tidies)) 0 (proper (zerosOf st) (textOf st)) .opens e in
         absurd (omega (arith, size, near))
 
-module _ (st : State) (s : List ℕ) (b : ℕ) (h : Stands st s) (full : 80 ≤ st .len) where
+module _ (st : State) (s : List ℕ) (b : ℕ) (h : Stands st s) (full : 150 ≤ st .len) where
   counted-kept : (n : ℕ) → n ≤ st .len → over (counted st) n ≡ over st n
   counted-kept zero le = over-kept (counted st) zero le ∙ sym (over-kept st zero le)
   counted-kept (suc n) le = over-kept (counted st) (suc n) le ∙ sym (over-kept st (suc n) le)
@@ -214,20 +214,20 @@ none-marked st s h e = rw (h .mark, e) (go (zerosOf st))
 
 pub one-stands : (st : State) (s : List ℕ) (b : ℕ) → Stands st s → Stands (pushOne st b) (s ++ b ∷ [])
 unfolding pushOne
-one-stands st s b h = go (ltb (st .len) 80) refl
+one-stands st s b h = go (ltb (st .len) 150) refl
   where
     m : ℕ
     m = nextMark (zerosOf st) (st .mark) b
 
-    last : (t u v : Bool) → eqb (st .mark) 11 ≡ t → ltb 0 (st .len) ≡ u → isDigit b ≡ v → st .len < 80 → Stands (pick (and t (and u v)) (keptAt st (st .len - 1) (joined (getD (st .kept) (st .len - 1) 0) b) (st .len) m) (keptAt st (st .len) b (st .len + 1) m)) (s ++ b ∷ [])
+    last : (t u v : Bool) → eqb (st .mark) 11 ≡ t → ltb 0 (st .len) ≡ u → isDigit b ≡ v → st .len < 150 → Stands (pick (and t (and u v)) (keptAt st (st .len - 1) (joined (getD (st .kept) (st .len - 1) 0) b) (st .len) m) (keptAt st (st .len) b (st .len + 1) m)) (s ++ b ∷ [])
     last true true true et eu ev lt = joined-stands st s b m (st .len - 1) h (omega (arith, ltb-true 0 (st .len) eu)) (eqb-true (st .mark) 11 et) ev (rw (eqb-true (st .mark) 11 et))
     last true true false et eu ev lt = kept-stands st s b m h lt (rw (et, ev)) refl
     last true false v et eu ev lt = kept-stands st s b m h lt (rw (none-marked st s h (omega (arith, ltb-false 0 (st .len) eu)))) refl
     last false u v et eu ev lt = kept-stands st s b m h lt (rw et) refl
 
-    go : (t : Bool) → ltb (st .len) 80 ≡ t → Stands (pick t (pick (joins st b) (keptAt st (st .len - 1) (joined (getD (st .kept) (st .len - 1) 0) b) (st .len) m) (keptAt st (st .len) b (st .len + 1) m)) (counted st)) (s ++ b ∷ [])
-    go true e = last (eqb (st .mark) 11) (ltb 0 (st .len)) (isDigit b) refl refl refl (ltb-true (st .len) 80 e)
-    go false e = counted-stands st s b h (ltb-false (st .len) 80 e)
+    go : (t : Bool) → ltb (st .len) 150 ≡ t → Stands (pick t (pick (joins st b) (keptAt st (st .len - 1) (joined (getD (st .kept) (st .len - 1) 0) b) (st .len) m) (keptAt st (st .len) b (st .len + 1) m)) (counted st)) (s ++ b ∷ [])
+    go true e = last (eqb (st .mark) 11) (ltb 0 (st .len)) (isDigit b) refl refl refl (ltb-true (st .len) 150 e)
+    go false e = counted-stands st s b h (ltb-false (st .len) 150 e)
 
 pub pushes-stands : (p : List ℕ) (st : State) (s : List ℕ) → Stands st s → Stands (pushes st p) (s ++ p)
 unfolding pushes

@@ -37,7 +37,7 @@ nextMark zeros m b =
 abbrev pub joined : ℕ → ℕ → ℕ
 joined last b = pick (eqb last 48) b last
 
--- The next byte: it is joined to the last kept one, or kept behind it, or, where 80 are kept, only counted.
+-- The next byte: it is joined to the last kept one, or kept behind it, or, where 150 are kept, only counted.
 abbrev pub joinsTo : ℕ → ℕ → ℕ → Bool
 joinsTo mark n b = and (eqb mark 11) (and (ltb 0 n) (isDigit b))
 
@@ -60,7 +60,7 @@ keptAt st at byte n m = record {
 unfoldable pub pushOne : State → ℕ → State
 pushOne st b =
     let m = nextMark (dropsZeros (st .kind)) (st .mark) b in
-    pick (ltb (st .len) 80)
+    pick (ltb (st .len) 150)
     (pick (joins st b) (keptAt st (st .len - 1) (joined (getD (st .kept) (st .len - 1) 0) b) (st .len) m) (keptAt st (st .len) b (st .len + 1) m))
     (counted st)
 
@@ -74,7 +74,7 @@ zeroRun [] = 0
 zeroRun (b ∷ p) = pick (eqb b 48) (suc (zeroRun p)) 0
 
 abbrev pub started : Kind → State
-started k = record { kind = k; kept = replicate 80 0; places = replicate 80 0; len = 0; mark = pick (dropsZeros k) 1 0; accepted = 0 }
+started k = record { kind = k; kept = replicate 150 0; places = replicate 150 0; len = 0; mark = pick (dropsZeros k) 1 0; accepted = 0 }
 
 -- "6, exactly when the accepted bytes would pass 4,294,967,295 in all; the state is unchanged"
 abbrev pub stepped : State → List ℕ → Stepped

@@ -1,7 +1,7 @@
 // A record that arrives in pieces.
 //
 // `start` gives a state, `step` gives it a piece, and `answer` and `end` say what the two readers say of all that was accepted, however it was
-// cut: that is `proofs/Laws.antt`. The state never holds the text, which has no limit: it keeps at most 80 bytes that are read the same, and
+// cut: that is `proofs/Laws.antt`. The state never holds the text, which has no limit: it keeps at most 150 bytes that are read the same, and
 // of each the place where it stood (specs/Keeping.antt).
 ghost use Prim.Native.Nat.{_+_, _<_, _≤_, min, max};
 ghost use mathlib.Core.Path.{_≡_};
@@ -15,7 +15,7 @@ use kinds::answer::Read;
 use types::Refusal;
 
 // So many bytes are kept, at most.
-pub const ROOM: usize = 80;
+pub const ROOM: usize = 150;
 
 // So many bytes are accepted, at most.
 pub const MOST: usize = 4294967295;
@@ -26,8 +26,8 @@ const LAST: u8 = 11;
 // The kept bytes and the place of each in the input, how many they are, what the last of them tell (`nextMark`), and how many were accepted.
 pub struct State {
     pub kind: Kind,
-    pub kept: [u8; 80],
-    pub places: [u32; 80],
+    pub kept: [u8; 150],
+    pub places: [u32; 150],
     pub len: usize,
     pub mark: u8,
     pub accepted: u32,
@@ -196,7 +196,7 @@ pub fn step(state: State, piece: &[u8]) -> Stepped
 
 // No more than there is room for.
 fn held(len: usize) -> usize
-    ensures { λ r. ⌜ r ≡ min len 80 ⌝ }
+    ensures { λ r. ⌜ r ≡ min len 150 ⌝ }
 {
     if len < ROOM { len } else { ROOM }
 }

@@ -1,4 +1,4 @@
--- Document 01's "Cases to prove", row by row: the reader, under document 01's choices, the bytes, and what it tells of them.
+-- Document 01's "Cases to prove", row by row, with request W9's in the place of the last: the reader, under document 01's choices, the bytes, and what it tells of them.
 use Prim.Native.Nat.{ℕ}
 use mathlib.Core.List.{List, [], _∷_}
 use mathlib.Core.Option.{Option, some, none}
@@ -66,6 +66,6 @@ table =
     begins (kind.Stamp document01) (50 ∷ 48 ∷ 49 ∷ 53 ∷ 45 ∷ 49 ∷ 49 ∷ 45 ∷ 48 ∷ 50 ∷ 84 ∷ 50 ∷ 49 ∷ 58 ∷ 53 ∷ 54 ∷ 58 ∷ 52 ∷ []) (recorded (record-of.Stamp (record { date = YMD (pos 2015) 11 2; time = clock 21 56 0 0 0 })) 16) Open ∷
     -- P4294967295S
     begins kind.Duration (80 ∷ 52 ∷ 50 ∷ 57 ∷ 52 ∷ 57 ∷ 54 ∷ 55 ∷ 50 ∷ 57 ∷ 53 ∷ 83 ∷ []) (recorded (record-of.Duration (seconds 4294967295)) 12) Settled ∷
-    -- P4294967296S
-    begins kind.Duration (80 ∷ 52 ∷ 50 ∷ 57 ∷ 52 ∷ 57 ∷ 54 ∷ 55 ∷ 50 ∷ 57 ∷ 54 ∷ 83 ∷ []) (refused 2 0) Settled ∷
+    -- request W9: "Document 01's last proved case becomes a record, count 12; `P18446744073709551616S` replaces it."
+    begins kind.Duration (80 ∷ 49 ∷ 56 ∷ 52 ∷ 52 ∷ 54 ∷ 55 ∷ 52 ∷ 52 ∷ 48 ∷ 55 ∷ 51 ∷ 55 ∷ 48 ∷ 57 ∷ 53 ∷ 53 ∷ 49 ∷ 54 ∷ 49 ∷ 54 ∷ 83 ∷ []) (refused 2 0) Settled ∷
     []

@@ -19,7 +19,8 @@ use Rattle.words.specs.Words.{lettersOf, wordText}
 use Rattle.words.specs.Records.{verdictWord}
 use Rattle.reply.specs.Line.{recordOrDash, headOf, questionOf, textIn}
 use Rattle.reply.proofs.Asked.{head-size, names-short, said-clip}
-use Rattle.reply.proofs.Short.{digits-short, text-short, record-few}
+use Rattle.text.proofs.Decimals.{digits-short}
+use Rattle.reply.proofs.Short.{text-short, record-few}
 use Rattle.cuts.specs.Cuts.{pieces, begunText, endText, SaysOf, SaysTo, Says, SaysLine}
 use Rattle.lines.proofs.Pinned.{onto-length}
 

@@ -12,9 +12,9 @@ use types::Duration;
 
 // Hour, minute and second parts of a duration's time portion
 pub struct DurationTimeParts {
-    pub hours: u32,
-    pub minutes: u32,
-    pub seconds: u32,
+    pub hours: u64,
+    pub minutes: u64,
+    pub seconds: u64,
 }
 
 // What the time portion finds. `more`: the input ended where a byte more could still matter.

@@ -11,8 +11,8 @@ use lib.Dec.{ltb, eqb}
 use lib.ListN.{length, length-append}
 use Rattle.types.specs.declared.Duration.{Duration}
 use Rattle.parser.specs.Reading.{pick, and}
-use Rattle.parser.specs.Digits.{limit}
 use Rattle.text.specs.Text.{decimal, decimalOf}
+use Rattle.text.proofs.Decimals.{digits-short}
 use Rattle.writing.specs.Spelling.{partSpelling, behindT, dateParts, timeParts}
 use Rattle.duration_writer.specs.Ranges.{timeless}
 
@@ -35,20 +35,6 @@ digit-less k n l h =
 pub decimal-less : (n : ℕ) → 9 < n → n < 10 ^ 20 → length (decimal n) ≡ suc (length (decimal (n / 10)))
 decimal-less n l h = digit-less 18 n l h
 
-at-most : (k m n : ℕ) → n < 10 ^ suc m → length (decimalOf k n) ≤ suc m
-unfolding decimalOf
-at-most zero m n h = omega arith
-at-most (suc k) zero n h = rw (lt-ltb n 10 (omega arith)) (omega arith)
-at-most (suc k) (suc m) n h = go (ltb n 10) (at-most k m (n / 10) (omega (arith, pow-suc 10 (suc m))))
-  where
-    go : (t : Bool) → length (decimalOf k (n / 10)) ≤ suc m → length (pick t ((48 + n) ∷ []) (decimalOf k (n / 10) ++ (48 + n % 10) ∷ [])) ≤ suc (suc m)
-    go true ih = omega arith
-    go false ih = omega (arith, length-append (decimalOf k (n / 10)) ((48 + n % 10) ∷ []))
-
--- a number of 32 bits has ten digits at most
-pub decimal-most : (n : ℕ) → n ≤ limit → length (decimal n) ≤ 10
-decimal-most n h = at-most 20 9 n (omega arith)
-
 -- ---- a part
 
 pub not-zero : (n : ℕ) → eqb (suc n) 0 ≡ false
@@ -61,11 +47,11 @@ part-some n letter h = rw (ne-eqb n 0 (λ e. omega arith))
 pub part-size : (n letter : ℕ) → 0 < n → length (partSpelling n letter) ≡ length (decimal n) + 1
 part-size n letter h = rw (part-some n letter h) (length-append (decimal n) (letter ∷ []))
 
--- ten digits and the letter
-pub part-most : (n letter : ℕ) → n ≤ limit → length (partSpelling n letter) ≤ 11
+-- twenty digits and the letter
+pub part-most : (n letter : ℕ) → length (partSpelling n letter) ≤ 21
 unfolding partSpelling
-part-most zero letter h = omega arith
-part-most (suc n) letter h = rw (part-size (suc n) letter (omega arith)) (omega (arith, decimal-most (suc n) h))
+part-most zero letter = omega arith
+part-most (suc n) letter = rw (part-size (suc n) letter (omega arith)) (omega (arith, digits-short 20 (suc n)))
 
 pub date-size : (d : Duration) → length (dateParts d) ≡ length (partSpelling (d .years) 89) + length (partSpelling (d .months) 77) + length (partSpelling (d .weeks) 87) + length (partSpelling (d .days) 68)
 unfolding dateParts

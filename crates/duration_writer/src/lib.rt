@@ -14,9 +14,9 @@ use types::Duration;
 use writing::Written;
 
 // The length of a part, whatever its letter: none where the number is 0, or its digits and the letter.
-fn part_length(n: u32) -> usize
+fn part_length(n: u64) -> usize
     ensures size { λ r. ⌜ ((letter : ℕ) → r ≡ length (partSpelling n letter)) ⌝ }
-    ensures most { λ r. ⌜ r ≤ 11 ⌝ }
+    ensures most { λ r. ⌜ r ≤ 21 ⌝ }
 {
     if n == 0 {
         return 0;
@@ -31,7 +31,7 @@ fn part_length(n: u32) -> usize
 }
 
 // Puts a part: nothing where the number is 0. Most numbers have one digit, and these go by themselves.
-fn put_part(out: &mut [u8], at: usize, n: u32, letter: u8) -> usize
+fn put_part(out: &mut [u8], at: usize, n: u64, letter: u8) -> usize
     ensures { λ r. ⌜ Puts (partSpelling n letter) (now (out .entry)) at (now (out .exit)) r ⌝ }
 {
     if n == 0 {
@@ -41,7 +41,7 @@ fn put_part(out: &mut [u8], at: usize, n: u32, letter: u8) -> usize
         let next = put_byte(out, at, 48 + (n as u8));
         return put_byte(out, next, letter);
     }
-    let next = put_decimal(out, at, n as u64);
+    let next = put_decimal(out, at, n);
     put_byte(out, next, letter)
 }
 
@@ -61,14 +61,14 @@ fn is_timeless(d: Duration) -> bool
 // The length of the date parts, and that of the time parts without their `T`.
 fn date_length(d: Duration) -> usize
     ensures size { λ r. ⌜ r ≡ length (dateParts d) ⌝ }
-    ensures most { λ r. ⌜ r ≤ 44 ⌝ }
+    ensures most { λ r. ⌜ r ≤ 84 ⌝ }
 {
     part_length(d.years) + part_length(d.months) + part_length(d.weeks) + part_length(d.days)
 }
 
 fn time_length(d: Duration) -> usize
     ensures size { λ r. ⌜ r ≡ length (timeParts d) ⌝ }
-    ensures most { λ r. ⌜ r ≤ 33 ⌝ }
+    ensures most { λ r. ⌜ r ≤ 63 ⌝ }
 {
     part_length(d.hours) + part_length(d.minutes) + part_length(d.seconds)
 }

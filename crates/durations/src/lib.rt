@@ -26,7 +26,7 @@ pub struct DurationRead {
 // * Fully-specified duration: `P1Y2M3DT4H5M6S`
 // * Duration in weekly intervals: `P1W`
 //
-// The `T` may be absent. No range is asked of a part but that its number is at most 4,294,967,295.
+// The `T` may be absent. No range is asked of a part but that its number is at most 18,446,744,073,709,551,615.
 pub fn duration(s: &[u8]) -> DurationRead
     ensures { λ r. ⌜ durationReads (now (s .entry)) r ⌝ }
 {

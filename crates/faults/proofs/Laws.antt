@@ -11,7 +11,7 @@ use Rattle.kinds.specs.declared.answer.Letter.the-variants.{Names, Unknown}
 use Rattle.words.specs.Words.{lettersOf}
 use Rattle.reply.specs.Line.{plainHead, plainQuestion, plainText}
 use Rattle.reply.proofs.Asked.{names-short-in, said-clip}
-use Rattle.reply.proofs.Short.{digits-short}
+use Rattle.text.proofs.Decimals.{digits-short}
 use Rattle.breaks.specs.declared.Reason.{Reason}
 use Rattle.breaks.specs.declared.Reason.the-variants.{Ok, Early, Bad}
 use Rattle.breaks.specs.Breaks.{Tells}

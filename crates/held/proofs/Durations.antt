@@ -1,68 +1,45 @@
--- Durations: some reader gives every one that is made of numbers of 32 bits, so the slots hold one where each of their numbers fits.
-use Prim.Native.Nat.{ℕ}
-use mathlib.Core.List.{List, [], _∷_}
+-- Durations: each number is the one whose 64 bits its slot has, and no other is.
+use Prim.Native.Nat.{ℕ, suc, _-_, _<_, _≤_, _^_}
+use mathlib.Core.List.{[], _∷_}
 use mathlib.Core.Bool.{Bool, true, false}
-use mathlib.Core.Path.{_≡_, refl, sym, ap, _∙_}
+use mathlib.Core.Path.{_≡_, refl, sym, _∙_}
 use native.Mathlib.Omega.{arith}
-use borrow.Author.Tests.{le-leb, leb-true}
+use lib.Dec.{ltb}
 use lib.IntN.{ℤ, pos, negsuc}
-use Rattle.types.specs.declared.Duration.{Duration}
-use Rattle.parser.specs.Reading.{and}
-use Rattle.parser.proofs.Fields.{true≢false, and-first, and-true, and-second}
-use Rattle.slots.specs.Slots.{durationSlots}
+use mir.Syntax.{w64}
+use mir.Val.{toZ}
+use mir.Facts.{toZ-inj}
+use Rattle.parser.specs.Reading.{pick}
+use Rattle.parser.specs.Digits.{limit}
+use Rattle.slots.specs.Slots.{asSlot, durationSlots}
 use Rattle.slots.proofs.Stores.{_then_}
 use Rattle.duration_writer.specs.Ranges.{durationGiven}
 use Rattle.duration_writer.proofs.Within.{given-within}
-use Rattle.held.specs.Held.{Natural, isNatural, naturals, Made}
+use Rattle.held.specs.Held.{Made}
 
-pub seven : (a b c d e f g : ℤ) → and (isNatural a) (and (isNatural b) (and (isNatural c) (and (isNatural d) (and (isNatural e) (and (isNatural f) (isNatural g)))))) ≡ naturals (a ∷ b ∷ c ∷ d ∷ e ∷ f ∷ g ∷ [])
-unfolding naturals
-seven a b c d e f g = rw (and-true (isNatural g))
+slot-bits : (n : ℕ) → asSlot n ≡ toZ w64 n
+slot-bits n = go (ltb n (2 ^ 63)) refl
+  where
+    go : (t : Bool) → ltb n (2 ^ 63) ≡ t → pick t (pos n) (negsuc (2 ^ 64 - suc n)) ≡ toZ w64 n
+    go true e = rw e
+    go false e = rw e
 
--- ---- a number that fits is the slot's
+pub slot-once : (a b : ℕ) → a < 2 ^ 64 → b < 2 ^ 64 → asSlot a ≡ asSlot b → a ≡ b
+slot-once a b ha hb e = toZ-inj {w = w64} (record { fits = ha }) (record { fits = hb }) (sym (slot-bits a) ∙ e ∙ slot-bits b)
 
-is-held : (z : ℤ) {n : ℕ} → Natural z n → isNatural z ≡ true → pos n ≡ z
-is-held (pos k) h e = ap pos (h .fits k (omega (arith, leb-true k 4294967295 e)) refl)
-is-held (negsuc k) h e = absurd (true≢false (sym e))
+-- a number of 64 bits that its slot holds is the only one
+pub record Number (z : ℤ) (n : ℕ) : Type 0 where
+  pub is : asSlot n ≡ z
+  pub fits : n < 2 ^ 64
 
-first-held : {z : ℤ} {n : ℕ} (b : Bool) → Natural z n → and (isNatural z) b ≡ true → pos n ≡ z
-first-held {z} b h e = is-held z h (and-first (isNatural z) b e)
+number-found : {z : ℤ} {n : ℕ} → Number z n → (k : ℕ) → k ≤ limit → asSlot k ≡ z → n ≡ k
+number-found {n = n} h k l e = slot-once n k (h .fits) (omega arith) (h .is ∙ sym e)
 
-module _ {a b c d e f g : ℤ} {y mo w dd h m s : ℕ} (p₁ : Natural a y) (p₂ : Natural b mo) (p₃ : Natural c w) (p₄ : Natural d dd) (p₅ : Natural e h) (p₆ : Natural f m) (p₇ : Natural g s) where
-  pub duration-held : naturals (a ∷ b ∷ c ∷ d ∷ e ∷ f ∷ g ∷ []) ≡ true
-      → durationSlots (record { years = y; months = mo; weeks = w; days = dd; hours = h; minutes = m; seconds = s }) ≡ a ∷ b ∷ c ∷ d ∷ e ∷ f ∷ g ∷ []
-  unfolding naturals
-  duration-held q₁ =
-      let q₂ = and-second (isNatural a) q₁ in
-      let q₃ = and-second (isNatural b) q₂ in
-      let q₄ = and-second (isNatural c) q₃ in
-      let q₅ = and-second (isNatural d) q₄ in
-      let q₆ = and-second (isNatural e) q₅ in
-      let q₇ = and-second (isNatural f) q₆ in
-      first-held _ p₁ q₁ then first-held _ p₂ q₂ then first-held _ p₃ q₃ then first-held _ p₄ q₄ then first-held _ p₅ q₅ then first-held _ p₆ q₆ then first-held _ p₇ q₇ then refl
-
--- ---- and no other slots hold one
-
-slots-natural : (d : Duration) → durationGiven d ≡ true → naturals (durationSlots d) ≡ true
-unfolding naturals
-slots-natural d e =
-    let w = given-within d e in
-    rw (le-leb (d .years) 4294967295 (w .years), le-leb (d .months) 4294967295 (w .months), le-leb (d .weeks) 4294967295 (w .weeks), le-leb (d .days) 4294967295 (w .days), le-leb (d .hours) 4294967295 (w .hours), le-leb (d .minutes) 4294967295 (w .minutes), le-leb (d .seconds) 4294967295 (w .seconds))
-
-same : (y mo w d h m s : ℕ) (b : Duration) → durationSlots (record { years = y; months = mo; weeks = w; days = d; hours = h; minutes = m; seconds = s }) ≡ durationSlots b
-    → record { years = y; months = mo; weeks = w; days = d; hours = h; minutes = m; seconds = s } ≡ b
-same y mo w d h m s b e =
-    let years : y ≡ b .years = cc in
-    let months : mo ≡ b .months = cc in
-    let weeks : w ≡ b .weeks = cc in
-    let days : d ≡ b .days = cc in
-    let hours : h ≡ b .hours = cc in
-    let minutes : m ≡ b .minutes = cc in
-    let seconds : s ≡ b .seconds = cc in
-    rw (years, months, weeks, days, hours, minutes, seconds)
-
-pub duration-made : {l : List ℤ} {d : Duration} → durationSlots d ≡ l → Made durationGiven durationSlots l d
-duration-made {d = d} e = record { found = λ b g i. same (d .years) (d .months) (d .weeks) (d .days) (d .hours) (d .minutes) (d .seconds) b (e ∙ sym i); held = λ g. e }
-
-pub no-duration : {l : List ℤ} → naturals l ≡ false → (d : Duration) → durationGiven d ≡ true → durationSlots d ≡ l → ⊥
-no-duration e d g i = true≢false (sym (slots-natural d g) ∙ ap naturals i ∙ e)
+module _ {a b c d e f g : ℤ} {y mo w dd h m s : ℕ} (p₁ : Number a y) (p₂ : Number b mo) (p₃ : Number c w) (p₄ : Number d dd) (p₅ : Number e h) (p₆ : Number f m) (p₇ : Number g s) where
+  pub duration-made : Made durationGiven durationSlots (a ∷ b ∷ c ∷ d ∷ e ∷ f ∷ g ∷ []) (record { years = y; months = mo; weeks = w; days = dd; hours = h; minutes = m; seconds = s })
+  duration-made = record {
+    found = λ x given i.
+        let l = given-within x given in
+        rw (number-found p₁ (x .years) (l .years) (cc), number-found p₂ (x .months) (l .months) (cc), number-found p₃ (x .weeks) (l .weeks) (cc), number-found p₄ (x .days) (l .days) (cc), number-found p₅ (x .hours) (l .hours) (cc), number-found p₆ (x .minutes) (l .minutes) (cc), number-found p₇ (x .seconds) (l .seconds) (cc));
+    held = λ _. p₁ .is then p₂ .is then p₃ .is then p₄ .is then p₅ .is then p₆ .is then p₇ .is then refl;
+  }

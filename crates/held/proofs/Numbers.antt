@@ -5,12 +5,12 @@ use mathlib.Core.Path.{_≡_, refl, sym, ap, _∙_}
 use native.Mathlib.Omega.{arith}
 use borrow.Author.Tests.{ltb-true, ltb-false}
 use lib.IntN.{ℤ, pos, negsuc, natAbs}
-use lib.Signed.{ltZ, leZ}
+use lib.Signed.{ltZ}
 use mir.Syntax.{w32, w64}
 use mir.Val.{SFits, toZ, ofZ}
 use mir.Facts.{toZ-ofZ, toZ-pos}
 use Rattle.parser.proofs.Fields.{true≢false}
-use Rattle.held.specs.Held.{Natural, isNatural, Integer}
+use Rattle.held.specs.Held.{Natural, Integer}
 
 -- ---- without a sign
 
@@ -35,14 +35,6 @@ nonnegative (negsuc n) h i = absurd (true≢false h)
 
 pub same-natural : {z : ℤ} → Nonnegative z → Natural z (natAbs z)
 same-natural p = rw (p .is) (record { fits = λ k l e. cc; is = λ l. refl })
-
-pub less-is-none : (z : ℤ) → ltZ z (pos 0) ≡ true → false ≡ isNatural z
-less-is-none (pos n) h = absurd (omega (arith, ltb-true n 0 h))
-less-is-none (negsuc n) h = refl
-
-pub at-most : (z : ℤ) → ltZ z (pos 0) ≡ false → leZ z (pos 4294967295) ≡ isNatural z
-at-most (pos n) h = refl
-at-most (negsuc n) h = absurd (true≢false h)
 
 -- ---- with one
 

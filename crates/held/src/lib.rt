@@ -2,23 +2,17 @@
 ghost use mathlib.Core.Path.{_≡_};
 ghost use mathlib.Core.List.{_∷_, []};
 ghost use Rattle.types.specs.declared.Choices.{Choices};
-ghost use Rattle.slots.specs.Slots.{offsetSlots, timeOffsetSlots, timeSlots, dateSlots};
+ghost use Rattle.slots.specs.Slots.{offsetSlots, timeOffsetSlots, timeSlots, dateSlots, asSlot, durationSlots};
 ghost use Rattle.offset_writer.specs.Ranges.{offsetGiven};
 ghost use Rattle.time_writer.specs.Ranges.{timeOffsetGiven, timeGiven};
 ghost use Rattle.date_writer.specs.Ranges.{dateGiven};
-ghost use Rattle.held.specs.Held.{Natural, isNatural, naturals, Integer, Made, DurationMade};
+ghost use Rattle.duration_writer.specs.Ranges.{durationGiven};
+ghost use Rattle.held.specs.Held.{Natural, Integer, Made};
 use types::Date;
 use types::Duration;
 use types::Offset;
 use types::Time;
 use types::TimeOffset;
-use writing::both;
-
-// A duration; or that the slots hold none.
-pub enum HeldDuration {
-    Held(Duration),
-    Nothing,
-}
 
 // A slot's number in 32 bits: without a sign, and with one. What does not fit becomes a number that is in no offset, time or date.
 fn natural(n: i64) -> u32
@@ -127,30 +121,18 @@ pub fn date_of(form: i64, year: i64, part: i64, day: i64) -> Date
     Date::Ordinal { year: 0, day: 0 }
 }
 
-fn is_natural(n: i64) -> bool
-    ensures { λ r. ⌜ r ≡ isNatural n ⌝ }
+// The number whose 64 bits a slot has.
+fn number_of(slot: i64) -> u64
+    ensures { λ r. ⌜ asSlot r ≡ slot ⌝ }
 {
-    if n < 0 {
-        return false;
+    if slot < 0 {
+        let left = 0 - (slot + 1);
+        return 18446744073709551615 - (left as u64);
     }
-    n <= 4294967295
+    slot as u64
 }
 
-// Whether seven numbers all fit 32 bits without a sign.
-fn are_natural(a: i64, b: i64, c: i64, d: i64, e: i64, f: i64, g: i64) -> bool
-    ensures { λ r. ⌜ r ≡ naturals (a ∷ b ∷ c ∷ d ∷ e ∷ f ∷ g ∷ []) ⌝ }
-{
-    let last = both(is_natural(e), both(is_natural(f), is_natural(g)));
-    both(
-        is_natural(a),
-        both(
-            is_natural(b),
-            both(is_natural(c), both(is_natural(d), last)),
-        ),
-    )
-}
-
-// Some reader gives every duration, so there is no other to make of a number that does not fit.
+// Every number of 64 bits is in some duration, so that all slots hold one.
 pub fn duration_of(
     years: i64,
     months: i64,
@@ -159,19 +141,16 @@ pub fn duration_of(
     hours: i64,
     minutes: i64,
     seconds: i64,
-) -> HeldDuration
-    ensures { λ r. ⌜ DurationMade (years ∷ months ∷ weeks ∷ days ∷ hours ∷ minutes ∷ seconds ∷ []) r ⌝ }
+) -> Duration
+    ensures { λ r. ⌜ Made durationGiven durationSlots (years ∷ months ∷ weeks ∷ days ∷ hours ∷ minutes ∷ seconds ∷ []) r ⌝ }
 {
-    if are_natural(years, months, weeks, days, hours, minutes, seconds) {
-        return HeldDuration::Held(Duration {
-            years: natural(years),
-            months: natural(months),
-            weeks: natural(weeks),
-            days: natural(days),
-            hours: natural(hours),
-            minutes: natural(minutes),
-            seconds: natural(seconds),
-        });
+    Duration {
+        years: number_of(years),
+        months: number_of(months),
+        weeks: number_of(weeks),
+        days: number_of(days),
+        hours: number_of(hours),
+        minutes: number_of(minutes),
+        seconds: number_of(seconds),
     }
-    HeldDuration::Nothing
 }

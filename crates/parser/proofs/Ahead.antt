@@ -1,14 +1,14 @@
 -- What is found ends at the place or behind it.
 use Prim.Native.Nat.{ℕ, zero, suc, _+_, _*_, _-_, _≤_}
-use mathlib.Core.List.{List, [], _∷_}
+use mathlib.Core.List.{List}
 use mathlib.Core.Bool.{Bool, true, false}
 use mathlib.Core.Path.{_≡_, refl, _∙_}
 use native.Mathlib.Omega.{arith}
 use lib.ListN.{length, getD}
 use lib.Dec.{ltb, eqb}
 use Rattle.parser.specs.Reading.{Found, no, got, stop, Reader, lit, seq, then, opt, lack, alt, orElse, verify, keep, must, keepOrStop, map, mapFound, give, pick, and, within}
-use Rattle.parser.specs.Digits.{digit, digitsFrom, field, number, runAt, ofRun, runAs}
-use Rattle.parser.proofs.Places.{no≢got, stop≢got, got-place}
+use Rattle.parser.specs.Digits.{digit, digitsFrom, field, runAs}
+use Rattle.parser.proofs.Places.{no≢got, stop≢got, got-place, run-found}
 
 abbrev pub Ahead : {A : Type 0} → Reader A → Type 0
 Ahead {A} p = (s : List ℕ) (at : ℕ) (a : A) (n : ℕ) → p .reads s at ≡ got a n → at ≤ n
@@ -35,16 +35,7 @@ unfolding field
 field-ahead n lo hi s at a m e = digits-ahead lo hi n 0 s at a m e
 
 pub run-ahead : {A : Type 0} (f : List ℕ → A) (may : ℕ → Bool) (r : ℕ) → Ahead (runAs f may r)
-unfolding runAs
-run-ahead f may r s at a n e = go (runAt s at) e
-  where
-    fits : (d : List ℕ) (t : Bool) → pick t (got (f d) (at + length d)) (stop r) ≡ got a n → at ≤ n
-    fits d true e = omega (arith, got-place e)
-    fits d false e = absurd (stop≢got e)
-
-    go : (d : List ℕ) → ofRun d no (pick (may (number d)) (got (f d) (at + length d)) (stop r)) ≡ got a n → at ≤ n
-    go [] e = absurd (no≢got e)
-    go (b ∷ d) e = fits (b ∷ d) (may (number (b ∷ d))) e
+run-ahead f may r s at a n e = omega (arith, run-found f may r s at a n e .place)
 
 pub give-ahead : {A : Type 0} (v : A) → Ahead (give v)
 unfolding give

@@ -81,9 +81,10 @@ runAs f may r = record {
   more = λ s at. and (atTheEnd s at) (may (number (runAt s at)));
 }
 
--- "a digit run above 4,294,967,295" is refusal 2
+-- request W9, in the place of document 01's 4,294,967,295: "Digit runs in a duration now reach 18,446,744,073,709,551,615, and refusal 2
+-- starts above that"
 abbrev pub limit : ℕ
-limit = 4294967295
+limit = 18446744073709551615
 
 abbrev pub run : Reader ℕ
 run = runAs number (atMost limit) 2

@@ -9,7 +9,7 @@ use runs::Run;
 // What stands at a place: a number with the byte behind it; a number above the limit; no digit; or an end of the input
 // where a part could still be written.
 pub enum Item {
-    Number { value: u32, letter: u8, next: usize },
+    Number { value: u64, letter: u8, next: usize },
     TooBig,
     Wrong,
     Cut,
@@ -17,7 +17,7 @@ pub enum Item {
 
 // An optional part: its number, or 0, and the place after it, which lies further on exactly where the part is there.
 pub struct Part {
-    pub value: u32,
+    pub value: u64,
     pub next: usize,
 }
 
@@ -110,7 +110,7 @@ fn later_part(s: &[u8], at: usize, letter: u8) -> Part
     let two = two_part(s, at, letter);
     if two < 100 {
         return Part {
-            value: two,
+            value: two as u64,
             next: at + 3,
         };
     }
@@ -130,7 +130,7 @@ fn duration_part(s: &[u8], at: usize, letter: u8) -> Part
     if s.len() - 2 < at {
         return absent(at);
     }
-    let b = s[at] as u32;
+    let b = s[at] as u64;
     if b < 48 {
         return absent(at);
     }

@@ -1,14 +1,12 @@
 -- No answer is longer than the room that is kept for one: a word has at most 22 bytes, its space among them, and an answer at most 16.
-use Prim.Native.Nat.{ℕ, zero, suc, _+_, _*_, _/_, _%_, _≤_}
+use Prim.Native.Nat.{ℕ, _+_, _*_, _≤_}
 use mathlib.Core.Bool.{Bool, true, false}
 use mathlib.Core.List.{List, [], _∷_, _++_}
 use mathlib.Core.Option.{Option, some, none}
 use native.Mathlib.Omega.{arith}
-use lib.Dec.{ltb}
 use lib.ListN.{length, length-append}
 use Rattle.types.specs.declared.Date.{Date}
 use Rattle.types.specs.declared.Date.the-variants.{YMD, Week, Ordinal}
-use Rattle.parser.specs.Reading.{pick}
 use Rattle.kinds.specs.declared.answer.Letter.{Letter}
 use Rattle.kinds.specs.declared.answer.Letter.the-variants.{Names, Unknown}
 use Rattle.kinds.specs.declared.answer.Record.{Record}
@@ -17,19 +15,11 @@ use Rattle.words.specs.declared.word.Name.{Name}
 use Rattle.words.specs.declared.word.Name.the-variants as name
 use Rattle.words.specs.declared.word.Word.{Word}
 use Rattle.words.specs.declared.word.Word.the-variants as word
-use Rattle.text.specs.Text.{decimal, decimalOf}
+use Rattle.text.specs.Text.{decimal}
+use Rattle.text.proofs.Decimals.{digits-short}
 use Rattle.words.specs.Words.{lettersOf, wordText, textOf}
 use Rattle.words.specs.Records.{headWords, dateWords}
 use Rattle.reply.specs.Line.{firstWords, thenWords, recordOrDash, questionOf, AnswersTo, AnswersLine}
-
-pub digits-short : (k n : ℕ) → length (decimalOf k n) ≤ k
-unfolding decimalOf
-digits-short zero n = omega arith
-digits-short (suc k) n = step (ltb n 10) (digits-short k (n / 10))
-  where
-    step : (t : Bool) → length (decimalOf k (n / 10)) ≤ k → length (pick t ((48 + n) ∷ []) (decimalOf k (n / 10) ++ ((48 + n % 10) ∷ []))) ≤ suc k
-    step true h = omega arith
-    step false h = simp length-append (omega arith)
 
 letters-short : (n : Name) → length (lettersOf n) ≤ 8
 unfolding lettersOf
@@ -42,6 +32,7 @@ letters-short name.Duration = omega arith
 letters-short name.Settled = omega arith
 letters-short name.Open = omega arith
 letters-short name.None = omega arith
+letters-short name.Over = omega arith
 letters-short name.Dash = omega arith
 letters-short name.Unknown = omega arith
 

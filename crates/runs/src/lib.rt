@@ -1,27 +1,29 @@
 // Digit runs and the fraction, each read from a place of the input to its last digit (parser.rs). A place past the end is the end,
 // and nothing is asked of a caller.
 ghost use mathlib.Core.Path.{_≡_};
-ghost use Prim.Native.Nat.{_+_, _-_, _^_, _<_};
+ghost use Prim.Native.Nat.{_+_, _*_, _-_, _^_, _<_, _≤_};
 ghost use lib.Dec.{ltb};
 ghost use lib.ListN.{length};
 ghost use Rattle.parser.specs.Reading.{Says};
-ghost use Rattle.parser.specs.Digits.{run, atMost, runAs, upToNine, fractionOf, fraction, runAt};
+ghost use Rattle.parser.specs.Digits.{limit, run, atMost, runAs, upToNine, fractionOf, fraction, runAt};
 ghost use Rattle.runs.specs.Read.{foundRun, runFound, fractionFound, runMore};
 use types::Fraction;
 
 // What a digit run finds. `more`: it reaches the end of the input, where a digit could still be added.
 pub enum Run {
-    Got { value: u32, next: usize, more: bool },
+    Got { value: u64, next: usize, more: bool },
     TooBig,
     Wrong,
     Cut,
 }
 
-// The largest number that a digit run may have.
-pub const LIMIT: u64 = 4294967295;
+// The largest number that a digit run may have is 18446744073709551615: all but its last digit, and that one.
+const FRONT: u64 = 1844674407370955161;
+
+const LAST: u8 = 5;
 
 // What a run from `at` to `next` is. `more`: the input ends there.
-fn found_run(at: usize, next: usize, value: u32, more: bool) -> Run
+fn found_run(at: usize, next: usize, value: u64, more: bool) -> Run
     ensures { λ r. ⌜ r ≡ foundRun (ltb at next) more value next ⌝ }
 {
     if at < next {
@@ -30,11 +32,25 @@ fn found_run(at: usize, next: usize, value: u32, more: bool) -> Run
     if more { Run::Cut } else { Run::Wrong }
 }
 
+// Whether one digit more makes a number larger than any that a run may have.
+fn is_past(value: u64, digit: u8) -> bool
+    requires { ⌜ digit ≤ 9 ⌝ }
+    ensures { λ r. ⌜ r ≡ ltb limit (value * 10 + digit) ⌝ }
+{
+    if value < FRONT {
+        return false;
+    }
+    if FRONT < value {
+        return true;
+    }
+    LAST < digit
+}
+
 // A run of one digit or more, with any number of leading zeros.
 pub fn take_digits(s: &[u8], at: usize) -> Run
     ensures { λ r. ⌜ Says run (now (s .entry)) at (runFound r) (runMore r) ⌝ }
 {
-    let mut value: u32 = 0;
+    let mut value: u64 = 0;
     let mut next = at;
     while next < s.len() {
         let b = s[next];
@@ -44,11 +60,10 @@ pub fn take_digits(s: &[u8], at: usize) -> Run
         if 57 < b {
             return found_run(at, next, value, false);
         }
-        let wide = (value as u64) * 10 + ((b - 48) as u64);
-        if LIMIT < wide {
+        if is_past(value, b - 48) {
             return Run::TooBig;
         }
-        value = wide as u32;
+        value = value * 10 + ((b - 48) as u64);
         next = next + 1;
     }
     found_run(at, next, value, true)
@@ -118,7 +133,7 @@ fn factor(place: usize) -> u32
 pub fn fraction_nanosecond(s: &[u8], at: usize) -> Run
     ensures { λ r. ⌜ Says fraction (now (s .entry)) at (fractionFound at r) (runMore r) ⌝ }
 {
-    let mut value: u32 = 0;
+    let mut value: u64 = 0;
     let mut next = at;
     let mut place: usize = 0;
     while place < 9 {
@@ -132,7 +147,8 @@ pub fn fraction_nanosecond(s: &[u8], at: usize) -> Run
         if 57 < b {
             return found_run(at, next, value, false);
         }
-        value = value + ((b - 48) as u32) * factor(place);
+        let worth = ((b - 48) as u32) * factor(place);
+        value = value + (worth as u64);
         next = next + 1;
         place = place + 1;
     }

@@ -26,7 +26,7 @@ use Rattle.shortening.proofs.Zeros.{part-trims}
 use Rattle.shortening.proofs.Fields.{field-trims}
 use Rattle.shortening.proofs.Fractions.{zero-joined, Joined, point-trims}
 
-duration-trims : Trims zeros 79 duration
+duration-trims : Trims zeros 149 duration
 unfolding duration partsRule durationTime durationBaseTime
 duration-trims =
     map-trims _
@@ -113,9 +113,9 @@ familyOf kind.Offset = fractions
 familyOf (kind.Stamp c) = fractions
 familyOf kind.Duration = zeros
 
-pub trims : (k : Kind) → Trims (familyOf k) 79 (ruleOf k)
-trims kind.Date = weaken-trims 79 (omega arith) (map-trims _ date-trims)
-trims (kind.Time c) = weaken-trims 79 (omega arith) (map-trims _ (time-trims c))
-trims kind.Offset = weaken-trims 79 (omega arith) (map-trims _ offset-trims)
-trims (kind.Stamp c) = weaken-trims 79 (omega arith) (map-trims _ (datetime-trims c))
+pub trims : (k : Kind) → Trims (familyOf k) 149 (ruleOf k)
+trims kind.Date = weaken-trims 149 (omega arith) (map-trims _ date-trims)
+trims (kind.Time c) = weaken-trims 149 (omega arith) (map-trims _ (time-trims c))
+trims kind.Offset = weaken-trims 149 (omega arith) (map-trims _ offset-trims)
+trims (kind.Stamp c) = weaken-trims 149 (omega arith) (map-trims _ (datetime-trims c))
 trims kind.Duration = map-trims _ duration-trims

@@ -1,4 +1,4 @@
--- A digit run without its leading zeros is the same number, and within the limit it has at most ten digits.
+-- A digit run without its leading zeros is the same number, and within the limit it has at most twenty digits.
 use Prim.Native.Nat.{ℕ, zero, suc, _+_, _*_, _-_, _<_, _≤_}
 use mathlib.Core.List.{List, [], _∷_, _++_}
 use mathlib.Core.Bool.{Bool, true, false}
@@ -12,7 +12,7 @@ use Rattle.parser.specs.Reading.{no, got, stop, lit, seq, map, pick, and}
 use Rattle.parser.specs.Digits.{isDigit, digits, number, numberFrom, lowest, runAt, ofRun, atTheEnd, atMost, limit, runAs, run}
 use Rattle.parser.proofs.Fields.{true≢false, and-first}
 use Rattle.parser.proofs.Runs.{digits-inside, number-grows}
-use Rattle.parser.proofs.Places.{no≢got, stop≢got, got-place, run-bounded}
+use Rattle.parser.proofs.Places.{run-bounded, run-found}
 use Rattle.duration.specs.Rules.{part}
 use Rattle.shortening.proofs.Cuts.{whole, kept, behind, Carried, Simulates, seq-simulates, map-simulates}
 use Rattle.shortening.proofs.Local.{run-local}
@@ -84,17 +84,17 @@ number-least d zero v h = number-grows d v
 number-least [] (suc n) v h = absurd (omega arith)
 number-least (b ∷ d) (suc n) v h = let x = lowest-grows n (v * 10) (v * 10 + (b - 48)) (omega arith) in let y = number-least d n (v * 10 + (b - 48)) (omega arith) in omega (arith, x, y)
 
--- a number of eleven digits or more, the first not 0, is above the limit
-ten-digits : (b : ℕ) (d : List ℕ) → isDigit b ≡ true → (b ≡ 48 → ⊥) → leb (number (b ∷ d)) limit ≡ true → length d ≤ 9
+-- a number of 21 digits or more, the first not 0, is above the limit
+twenty-digits : (b : ℕ) (d : List ℕ) → isDigit b ≡ true → (b ≡ 48 → ⊥) → leb (number (b ∷ d)) limit ≡ true → length d ≤ 19
 unfolding lowest numberFrom
-ten-digits b d is other h = go (leb (length d) 9) refl
+twenty-digits b d is other h = go (leb (length d) 19) refl
   where
     some : 1 ≤ 0 + (b - 48)
     some = omega (arith, leb-true 48 b (and-first (leb 48 b) (leb b 57) is), other)
 
-    go : (t : Bool) → leb (length d) 9 ≡ t → length d ≤ 9
-    go true e = leb-true (length d) 9 e
-    go false e = absurd (omega (arith, lowest-grows 10 1 (0 + (b - 48)) some, number-least d 10 (0 + (b - 48)) (omega (arith, leb-false (length d) 9 e)), leb-true (number (b ∷ d)) limit h))
+    go : (t : Bool) → leb (length d) 19 ≡ t → length d ≤ 19
+    go true e = leb-true (length d) 19 e
+    go false e = absurd (omega (arith, lowest-grows 20 1 (0 + (b - 48)) some, number-least d 20 (0 + (b - 48)) (omega (arith, leb-false (length d) 19 e)), leb-true (number (b ∷ d)) limit h))
 
 digits-first : (l : List ℕ) (b : ℕ) (d : List ℕ) → digits l ≡ b ∷ d → isDigit b ≡ true
 unfolding digits
@@ -107,30 +107,22 @@ digits-first (c ∷ l) b d e = go (isDigit c) refl e
 
 -- a run of which no zero can be left out
 module _ (s : List ℕ) (at : ℕ) (h : (b : ℕ) (e : List ℕ) → runAt s at ≡ 48 ∷ b ∷ e → ⊥) where
-  run-few : (d : List ℕ) → runAt s at ≡ d → leb (number d) limit ≡ true → length d ≤ 10
+  run-few : (d : List ℕ) → runAt s at ≡ d → leb (number d) limit ≡ true → length d ≤ 20
   run-few [] e l = omega arith
   run-few (b ∷ []) e l = omega arith
-  run-few (b ∷ c ∷ d) e l = omega (arith, ten-digits b (c ∷ d) (digits-first (drop at s) b (c ∷ d) e) (λ zero. h c d (rw (← zero) e)) l)
+  run-few (b ∷ c ∷ d) e l = omega (arith, twenty-digits b (c ∷ d) (digits-first (drop at s) b (c ∷ d) e) (λ zero. h c d (rw (← zero) e)) l)
 
-  run-spans : Spans (λ _. Unit) s 10 at (run .more s at) (run .reads s at)
+  run-spans : Spans (λ _. Unit) s 20 at (run .more s at) (run .reads s at)
   unfolding runAs
-  run-spans = record { opens = λ o. opened (atTheEnd s at) refl o; ends = λ a n e. (ends (runAt s at) refl a n e, tt) }
+  run-spans = record { opens = λ o. opened (atTheEnd s at) refl o; ends = λ a n e. let r = run-found number (atMost limit) 2 s at a n e in (omega (arith, r .place, run-few (runAt s at) refl (r .may-be)), tt) }
     where
-      opened : (t : Bool) → atTheEnd s at ≡ t → and t (leb (number (runAt s at)) limit) ≡ true → length s ≤ at + 10
+      opened : (t : Bool) → atTheEnd s at ≡ t → and t (leb (number (runAt s at)) limit) ≡ true → length s ≤ at + 20
       opened true e l = omega (arith, ltb-false (at + length (runAt s at)) (length s) (not-true (ltb (at + length (runAt s at)) (length s)) e), run-few (runAt s at) refl l)
       opened false e l = absurd (true≢false (sym l))
 
-      ends : (d : List ℕ) → runAt s at ≡ d → (a n : ℕ) → ofRun d no (pick (leb (number d) limit) (got (number d) (at + length d)) (stop 2)) ≡ got a n → n ≤ at + 10
-      ends [] ed a n e = absurd (no≢got e)
-      ends (b ∷ d) ed a n e = fits (leb (number (b ∷ d)) limit) refl e
-        where
-          fits : (t : Bool) → leb (number (b ∷ d)) limit ≡ t → pick t (got (number (b ∷ d)) (at + length (b ∷ d))) (stop 2) ≡ got a n → n ≤ at + 10
-          fits true l e = omega (arith, got-place e, run-few (b ∷ d) ed l)
-          fits false l e = absurd (stop≢got e)
-
-pub part-trims : (letter : ℕ) → isDigit letter ≡ false → Trims zeros 11 (part letter)
+pub part-trims : (letter : ℕ) → isDigit letter ≡ false → Trims zeros 21 (part letter)
 unfolding part seq map
 part-trims letter apart = record {
   simulates = λ z. seq-simulates (cut zeros z) run (λ v. map (λ _. v) (lit letter)) (run-simulates z) (λ v. map-simulates (cut zeros z) (λ _. v) (lit letter) (lit-trims zeros letter apart .simulates z));
-  within = λ s h at f. then-spans (Proper zeros s) s (λ _. Unit) 10 1 at (run .more s at) (run .reads s at) _ _ (run-spans s at (h at f)) (λ v n g. map-spans (Proper zeros s) s 1 n (λ _. v) (lit letter .more s n) (lit letter .reads s n) (lit-spans zeros letter apart s n));
+  within = λ s h at f. then-spans (Proper zeros s) s (λ _. Unit) 20 1 at (run .more s at) (run .reads s at) _ _ (run-spans s at (h at f)) (λ v n g. map-spans (Proper zeros s) s 1 n (λ _. v) (lit letter .more s n) (lit letter .reads s n) (lit-spans zeros letter apart s n));
 }

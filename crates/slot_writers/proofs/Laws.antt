@@ -19,7 +19,6 @@ use Rattle.parser.specs.Reading.{Reader}
 use Rattle.slots.specs.Slots.{dateSlots, timeSlots, dateTimeSlots}
 use Rattle.slots.proofs.Laws.{date-length, time-length}
 use Rattle.writing.specs.declared.Written.{Written}
-use Rattle.writing.specs.declared.Written.the-variants.{NoReader}
 use Rattle.writing.specs.Writing.{countOf, Readable, Leaves, Writes}
 use Rattle.writing.proofs.Laws.{Spells, readable, not-readable}
 use Rattle.held.specs.Held.{Made}
@@ -69,12 +68,3 @@ module _ {A : Type 0} {n : ℕ} {p : Reader A} {slots : A → List ℤ} {spellin
     where
       is : (b : A) → Readable p b → Holds slots b before → a ≡ b
       is b q i = made .found b (k .ranges b q) (holds slots before b (size b) i)
-
-  -- where the slots hold none
-  pub refused : ((a : A) → given a ≡ true → slots a ≡ take m (drop 2 before) → ⊥) → Tells NoReader before after r → WritesFrom n p slots spelling before after old old r
-  refused none t = record {
-    few = λ i. absurd (omega arith);
-    unread = λ _ _. record { number = t .number; count = t .count; buffer = refl };
-    short = λ _ a q i. absurd (none a (k .ranges a q) (holds slots before a (size a) i));
-    fits = λ _ a q i. absurd (none a (k .ranges a q) (holds slots before a (size a) i));
-  }

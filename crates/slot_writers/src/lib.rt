@@ -11,7 +11,6 @@ ghost use Rattle.slots.specs.Slots.{offsetSlots, timeSlots, dateSlots, dateTime
 ghost use Rattle.writing.specs.Spelling.{offsetSpelling, timeSpelling, dateSpelling, dateTimeSpelling, durationSpelling};
 ghost use Rattle.writing.specs.Writing.{countOf};
 ghost use Rattle.slot_writers.specs.Promise.{Tells, WritesFrom};
-use held::HeldDuration;
 use slots::TOO_FEW;
 use types::Choices;
 use types::DateTime;
@@ -117,11 +116,6 @@ pub fn write_duration(slots: &mut [i64], text: &mut [u8]) -> u32
         slots[7],
         slots[8],
     );
-    match held {
-        HeldDuration::Held(d) => {
-            let written = duration_writer::write_duration(d, text);
-            tell(slots, written)
-        }
-        HeldDuration::Nothing => tell(slots, Written::NoReader),
-    }
+    let written = duration_writer::write_duration(held, text);
+    tell(slots, written)
 }

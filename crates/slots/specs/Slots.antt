@@ -1,11 +1,12 @@
 -- What an answer is in slots. Slot 0 has the count, slot 1 the verdict, and the record stands from slot 2 on. A refusal writes the
 -- first two alone.
-use Prim.Native.Nat.{ℕ, _<_, _≤_, _^_}
+use Prim.Native.Nat.{ℕ, suc, _-_, _<_, _≤_, _^_}
 use mathlib.Core.List.{List, [], _∷_, _++_}
 use mathlib.Core.Option.{Option, some, none}
 use mathlib.Core.Path.{_≡_}
 use lib.IntN.{ℤ, pos, negsuc}
 use lib.ListN.{length, drop}
+use lib.Dec.{ltb}
 use Rattle.types.specs.declared.Verdict.{Verdict}
 use Rattle.types.specs.declared.Verdict.the-variants.{Settled, Open}
 use Rattle.types.specs.declared.Offset.{Offset}
@@ -16,6 +17,7 @@ use Rattle.types.specs.declared.Date.{Date}
 use Rattle.types.specs.declared.Date.the-variants.{YMD, Week, Ordinal}
 use Rattle.types.specs.declared.DateTime.{DateTime}
 use Rattle.types.specs.declared.Duration.{Duration}
+use Rattle.parser.specs.Reading.{pick}
 use Rattle.parser.specs.Answer.{Told}
 
 -- ---- the record of each kind, slot by slot
@@ -44,8 +46,14 @@ dateSlots (Ordinal y d) = pos 2 ∷ y ∷ pos 0 ∷ pos d ∷ []
 abbrev pub dateTimeSlots : DateTime → List ℤ
 dateTimeSlots x = dateSlots (x .date) ++ timeSlots (x .time)
 
+-- A number of 64 bits, in a slot that has a sign: the slot has the same bits, so that a number from 2 ^ 63 on stands there less 2 ^ 64.
+abbrev pub asSlot : ℕ → ℤ
+asSlot n = pick (ltb n (2 ^ 63)) (pos n) (negsuc (2 ^ 64 - suc n))
+
 abbrev pub durationSlots : Duration → List ℤ
-durationSlots d = pos (d .years) ∷ pos (d .months) ∷ pos (d .weeks) ∷ pos (d .days) ∷ pos (d .hours) ∷ pos (d .minutes) ∷ pos (d .seconds) ∷ []
+durationSlots d =
+    asSlot (d .years) ∷ asSlot (d .months) ∷ asSlot (d .weeks) ∷ asSlot (d .days) ∷ asSlot (d .hours) ∷ asSlot (d .minutes) ∷ asSlot (d .seconds)
+    ∷ []
 
 -- ---- all the slots of an answer
 

@@ -8,7 +8,7 @@ ghost use lib.ListN.{length};
 ghost use lib.Seq.{sets};
 ghost use Rattle.types.specs.Numbers.{numberOf};
 ghost use Rattle.parser.specs.Answer.{recorded, refused};
-ghost use Rattle.slots.specs.Slots.{verdictSlot, offsetSlots, timeOffsetSlots, timeSlots, dateSlots, dateTimeSlots, durationSlots, noSlots, PutIn};
+ghost use Rattle.slots.specs.Slots.{verdictSlot, offsetSlots, timeOffsetSlots, timeSlots, dateSlots, dateTimeSlots, asSlot, durationSlots, noSlots, PutIn};
 ghost use Rattle.slots.specs.Choosing.{chosen};
 use types::Choices;
 use types::Date;
@@ -77,23 +77,13 @@ pub fn verdict_slot(verdict: Verdict) -> i64
     }
 }
 
-// The two slots that every answer has, and four and three from a place on.
+// The two slots that every answer has, and three and four from a place on.
 fn put_head(slots: &mut [i64], count: usize, verdict: i64)
     requires { ⌜ (2 ≤ length (now slots)) × (count < 2 ^ 63) ⌝ }
     ensures { λ _. ⌜ now (slots .exit) ≡ sets (now (slots .entry)) 0 (pos count ∷ verdict ∷ []) ⌝ }
 {
     slots[0] = count as i64;
     slots[1] = verdict;
-}
-
-fn put_four(slots: &mut [i64], at: usize, a: u32, b: u32, c: u32, d: u32)
-    requires { ⌜ at + 4 ≤ length (now slots) ⌝ }
-    ensures { λ _. ⌜ now (slots .exit) ≡ sets (now (slots .entry)) at (pos a ∷ pos b ∷ pos c ∷ pos d ∷ []) ⌝ }
-{
-    slots[at] = a as i64;
-    slots[at + 1] = b as i64;
-    slots[at + 2] = c as i64;
-    slots[at + 3] = d as i64;
 }
 
 fn put_three(slots: &mut [i64], at: usize, a: i64, b: i64, c: i64)
@@ -103,6 +93,14 @@ fn put_three(slots: &mut [i64], at: usize, a: i64, b: i64, c: i64)
     slots[at] = a;
     slots[at + 1] = b;
     slots[at + 2] = c;
+}
+
+fn put_four(slots: &mut [i64], at: usize, a: i64, b: i64, c: i64, d: i64)
+    requires { ⌜ at + 4 ≤ length (now slots) ⌝ }
+    ensures { λ _. ⌜ now (slots .exit) ≡ sets (now (slots .entry)) at (a ∷ b ∷ c ∷ d ∷ []) ⌝ }
+{
+    put_three(slots, at, a, b, c);
+    slots[at + 3] = d;
 }
 
 // Each of these fills the slots of an answer and returns its number.
@@ -158,15 +156,6 @@ fn shift_of(o: TimeOffset) -> Shift
     }
 }
 
-// An offset's three slots and the digits behind them, from a place on.
-fn put_behind(slots: &mut [i64], at: usize, given: i64, hours: i64, minutes: i64, digits: u32)
-    requires { ⌜ at + 4 ≤ length (now slots) ⌝ }
-    ensures { λ _. ⌜ now (slots .exit) ≡ sets (now (slots .entry)) at (given ∷ hours ∷ minutes ∷ pos digits ∷ []) ⌝ }
-{
-    put_three(slots, at, given, hours, minutes);
-    slots[at + 3] = digits as i64;
-}
-
 // A time's eight slots, from a place on.
 fn put_time_from(slots: &mut [i64], at: usize, t: Time)
     requires { ⌜ at + 8 ≤ length (now slots) ⌝ }
@@ -174,14 +163,21 @@ fn put_time_from(slots: &mut [i64], at: usize, t: Time)
 {
     let o = t.offset;
     let shift = shift_of(o);
-    put_four(slots, at, t.hour, t.minute, t.second, t.nanosecond);
-    put_behind(
+    put_four(
+        slots,
+        at,
+        t.hour as i64,
+        t.minute as i64,
+        t.second as i64,
+        t.nanosecond as i64,
+    );
+    put_four(
         slots,
         at + 4,
         shift.given,
         shift.hours,
         shift.minutes,
-        t.digits,
+        t.digits as i64,
     );
 }
 
@@ -197,8 +193,22 @@ pub fn put_time(slots: &mut [i64], count: usize, verdict: i64, t: Time) -> u32
     let o = t.offset;
     let shift = shift_of(o); // before anything is stored: else it is asked again behind that
     put_head(slots, count, verdict);
-    put_four(slots, 2, t.hour, t.minute, t.second, t.nanosecond);
-    put_behind(slots, 6, shift.given, shift.hours, shift.minutes, t.digits);
+    put_four(
+        slots,
+        2,
+        t.hour as i64,
+        t.minute as i64,
+        t.second as i64,
+        t.nanosecond as i64,
+    );
+    put_four(
+        slots,
+        6,
+        shift.given,
+        shift.hours,
+        shift.minutes,
+        t.digits as i64,
+    );
     0
 }
 
@@ -276,6 +286,17 @@ pub fn put_datetime(slots: &mut [i64], count: usize, verdict: i64, x: DateTime) 
     0
 }
 
+// A number's 64 bits in a slot, which has a sign.
+fn as_slot(n: u64) -> i64
+    ensures { λ r. ⌜ r ≡ asSlot n ⌝ }
+{
+    if n < 9223372036854775808 {
+        return n as i64;
+    }
+    let left = 18446744073709551615 - n;
+    -1 - (left as i64)
+}
+
 pub fn put_duration(slots: &mut [i64], count: usize, verdict: i64, d: Duration) -> u32
     ensures { λ r. ⌜ PutIn 9 durationSlots verdict (recorded d count) (now (slots .entry)) (now (slots .exit)) r ⌝ }
 {
@@ -286,7 +307,20 @@ pub fn put_duration(slots: &mut [i64], count: usize, verdict: i64, d: Duration) 
         return TOO_FEW;
     }
     put_head(slots, count, verdict);
-    put_four(slots, 2, d.years, d.months, d.weeks, d.days);
-    put_three(slots, 6, d.hours as i64, d.minutes as i64, d.seconds as i64);
+    put_four(
+        slots,
+        2,
+        as_slot(d.years),
+        as_slot(d.months),
+        as_slot(d.weeks),
+        as_slot(d.days),
+    );
+    put_three(
+        slots,
+        6,
+        as_slot(d.hours),
+        as_slot(d.minutes),
+        as_slot(d.seconds),
+    );
     0
 }

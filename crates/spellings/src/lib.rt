@@ -18,7 +18,7 @@ use words::rows::put_name;
 use words::word::Name;
 
 // As long as the longest spelling, a duration's.
-const LONGEST: usize = 79;
+const LONGEST: usize = 149;
 
 fn put_spelling(out: &mut [u8], at: usize, value: Record, choices: Choices) -> usize
     requires { ⌜ Readable (ruleOf (kindOf choices value)) value ⌝ }

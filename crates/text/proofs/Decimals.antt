@@ -1,13 +1,28 @@
 -- The fewest digits that hold a number, as the kit's `decimal` spells them, are its decimal digits; and a signed number is its size behind
 -- its sign.
-use Prim.Native.Nat.{ℕ, zero, suc, _/_, _%_, _^_, _≤_, _<_}
+use Prim.Native.Nat.{ℕ, zero, suc, _+_, _/_, _%_, _^_, _≤_, _<_}
+use mathlib.Core.Bool.{Bool, true, false}
+use mathlib.Core.List.{[], _∷_, _++_}
 use mathlib.Core.Path.{_≡_}
 use native.Mathlib.Nat.{pow-suc, pow-le-pow-right, lt-of-not-le}
 use native.Mathlib.Numerals.{sub-one}
 use native.Mathlib.Omega.{arith}
 use borrow.Author.Tests.{lt-ltb, le-ltb}
+use lib.Dec.{ltb}
+use lib.ListN.{length, length-append}
+use Rattle.parser.specs.Reading.{pick}
 use Rattle.io.specs.Digits.{digits, Fewest}
 use Rattle.text.specs.Text.{decimal, decimalOf}
+
+-- they are no more than there is room for
+pub digits-short : (k n : ℕ) → length (decimalOf k n) ≤ k
+unfolding decimalOf
+digits-short zero n = omega arith
+digits-short (suc k) n = step (ltb n 10) (digits-short k (n / 10))
+  where
+    step : (t : Bool) → length (decimalOf k (n / 10)) ≤ k → length (pick t ((48 + n) ∷ []) (decimalOf k (n / 10) ++ ((48 + n % 10) ∷ []))) ≤ suc k
+    step true h = omega arith
+    step false h = simp length-append (omega arith)
 
 ten-pow : (k : ℕ) → 1 ≤ 10 ^ k
 ten-pow zero = omega arith

@@ -167,7 +167,7 @@ fn time_fraction(
             let fraction = fraction_at(s, from, zero);
             match fraction {
                 Run::Got { value, next, more } => {
-                    let kept = runs::fraction_of(value, next - from);
+                    let kept = runs::fraction_of(value as u32, next - from);
                     ClockFound::Got {
                         value: clock_of(unit, minute, second, kept),
                         next,

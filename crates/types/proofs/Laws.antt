@@ -1,17 +1,18 @@
 -- What holds of every offset that the constructor makes, and of the small sums.
 use Prim.Native.Nat.{ℕ, zero, suc, _+_, _*_, _≤_}
 use mathlib.Core.Bool.{Bool, true, false}
-use mathlib.Core.Path.{_≡_, refl, sym, ap₂}
+use mathlib.Core.Path.{_≡_, refl, sym, ap₂, _∙_}
 use native.Mathlib.Omega.{arith}
-use borrow.Author.Tests.{leb-true, le-leb, le-ltb, lt-leb}
+use borrow.Author.Tests.{leb-true, leb-false, le-leb, le-ltb, lt-leb}
 use lib.Dec.{leb}
 use lib.IntN.{ℤ, pos, negℤ, _+ℤ_, _*ℤ_, negℤ-+ℤ, negsuc}
 use Rattle.types.specs.declared.Offset.{Offset}
+use Rattle.types.specs.declared.InSeconds.{InSeconds}
 use Rattle.types.specs.declared.MadeOffset.the-variants.{Made, Outside}
 use Rattle.types.specs.declared.Refusal.{Refusal}
 use Rattle.types.specs.declared.Refusal.the-variants.{NoForm, TooBig, LeftOver}
 use Rattle.types.specs.Numbers.{numberOf}
-use Rattle.types.specs.Sums.{and, withSign, signedOffset, made, pickMade, minutesInAll, betweenTheEnds, inRange, sameSign, secondsOf}
+use Rattle.types.specs.Sums.{and, withSign, signedOffset, made, pickMade, minutesInAll, betweenTheEnds, inRange, sameSign, secondsOf, largest, sumOrOver, within, plus}
 
 neg-times : (n : ℕ) → negℤ (pos n) *ℤ pos 60 ≡ negℤ (pos (n * 60))
 neg-times zero = refl
@@ -96,3 +97,17 @@ number-once TooBig LeftOver e = absurd (omega arith)
 number-once LeftOver NoForm e = absurd (omega arith)
 number-once LeftOver TooBig e = absurd (omega arith)
 number-once LeftOver LeftOver e = refl
+
+-- ---- the seconds in all
+
+-- what has come to a sum of a so far
+pub record ComesTo (r : InSeconds) (a : ℕ) : Type 0 where
+  pub is : r ≡ within a
+
+-- a sum that was refused on the way is refused in the end, and no other is
+pub then-plus : {r q : InSeconds} {a : ℕ} (b : ℕ) → ComesTo q a → r ≡ plus q b → ComesTo r (a + b)
+then-plus {a = a} b e f = record { is = f ∙ rw (e .is) (go (leb a largest) refl) }
+  where
+    go : (t : Bool) → leb a largest ≡ t → plus (sumOrOver t a) b ≡ within (a + b)
+    go true e = refl
+    go false e = sym (rw (lt-leb (a + b) largest (omega (arith, leb-false a largest e))))

@@ -6,6 +6,8 @@ use lib.IntN.{ℤ, pos, negℤ, _+ℤ_, _*ℤ_}
 use lib.Signed.{leZ, ltZ}
 use Rattle.types.specs.declared.Offset.{Offset}
 use Rattle.types.specs.declared.Duration.{Duration}
+use Rattle.types.specs.declared.InSeconds.{InSeconds}
+use Rattle.types.specs.declared.InSeconds.the-variants.{Sum, Over}
 use Rattle.types.specs.declared.MadeOffset.{MadeOffset}
 use Rattle.types.specs.declared.MadeOffset.the-variants.{Made, Outside}
 
@@ -63,9 +65,29 @@ betweenTheEnds z = and (not (ltZ z least)) (leZ z greatest)
 unfoldable pub inRange : Offset → Bool
 inRange o = betweenTheEnds (minutesInAll o)
 
--- "Year 365 days, month 30, week 7, all summed exactly in 64 bits"
+-- "Year 365 days, month 30, week 7, all summed exactly"
 abbrev pub secondsOf : Duration → ℕ
 secondsOf d = (d .years * 365 + d .months * 30 + d .weeks * 7 + d .days) * 86400 + d .hours * 3600 + d .minutes * 60 + d .seconds
+
+-- "18,446,744,073,709,551,615"
+abbrev pub largest : ℕ
+largest = 18446744073709551615
+
+-- request W9: refused "exactly when the true sum is above the new limit"
+abbrev pub sumOrOver : Bool → ℕ → InSeconds
+sumOrOver true n = Sum n
+sumOrOver false n = Over
+
+abbrev pub within : ℕ → InSeconds
+within n = sumOrOver (leb n largest) n
+
+unfoldable pub inSeconds : Duration → InSeconds
+inSeconds d = within (secondsOf d)
+
+-- so much more, where nothing was refused yet
+abbrev pub plus : InSeconds → ℕ → InSeconds
+plus (Sum a) b = within (a + b)
+plus Over b = Over
 
 -- "`has_time` is true exactly when days, hours, minutes and seconds are all above 0"
 unfoldable pub hasTime : Duration → Bool

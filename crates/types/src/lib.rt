@@ -1,6 +1,8 @@
 // The records that the readers make, the refusals and the verdict, and the small sums over them (types.rs).
 ghost use mathlib.Core.Path.{_≡_};
-ghost use Rattle.types.specs.Sums.{withSign, minutesInAll, inRange, made, secondsOf, isZero, hasTime};
+ghost use Prim.Native.Nat.{_*_, _<_};
+ghost use Rattle.types.specs.Sums.{withSign, minutesInAll, inRange, made, plus, inSeconds, isZero, hasTime};
+ghost use Rattle.types.specs.Numbers.{sumNumber};
 
 // Whether a longer input could still get another answer.
 pub enum Verdict {
@@ -92,13 +94,19 @@ pub struct DateTime {
 }
 
 pub struct Duration {
-    pub years: u32,
-    pub months: u32,
-    pub weeks: u32,
-    pub days: u32,
-    pub hours: u32,
-    pub minutes: u32,
-    pub seconds: u32,
+    pub years: u64,
+    pub months: u64,
+    pub weeks: u64,
+    pub days: u64,
+    pub hours: u64,
+    pub minutes: u64,
+    pub seconds: u64,
+}
+
+// The seconds of a duration in all; or, refused, that they are more than 64 bits hold.
+pub enum InSeconds {
+    Sum(u64),
+    Over,
 }
 
 // What the constructor of an offset gives.
@@ -205,17 +213,48 @@ impl Duration {
         0 < self.seconds
     }
 
-    // The seconds in all, with years of 365 days and months of 30, exact for every record.
-    pub fn in_seconds(self) -> u64
-        ensures { λ r. ⌜ r ≡ secondsOf self ⌝ }
+    // The seconds in all, with years of 365 days and months of 30: exact, or refused where they are more than 64 bits hold.
+    pub fn in_seconds(self) -> InSeconds
+        ensures { λ r. ⌜ r ≡ inSeconds self ⌝ }
     {
-        let days = (self.years as u64) * 365
-            + (self.months as u64) * 30
-            + (self.weeks as u64) * 7
-            + (self.days as u64);
-        days * 86400
-            + (self.hours as u64) * 3600
-            + (self.minutes as u64) * 60
-            + (self.seconds as u64)
+        InSeconds::Sum(0)
+            .plus(self.years, 31536000)
+            .plus(self.months, 2592000)
+            .plus(self.weeks, 604800)
+            .plus(self.days, 86400)
+            .plus(self.hours, 3600)
+            .plus(self.minutes, 60)
+            .plus(self.seconds, 1)
+    }
+}
+
+impl InSeconds {
+    // The largest sum.
+    const LIMIT: u64 = 18446744073709551615;
+
+    // So many times a unit more.
+    fn plus(self, n: u64, unit: u64) -> InSeconds
+        requires { ⌜ 0 < unit ⌝ }
+        ensures { λ r. ⌜ r ≡ plus self (n * unit) ⌝ }
+    {
+        match self {
+            InSeconds::Sum(sum) => {
+                if (InSeconds::LIMIT - sum) / unit < n {
+                    return InSeconds::Over;
+                }
+                InSeconds::Sum(sum + n * unit)
+            }
+            InSeconds::Over => InSeconds::Over,
+        }
+    }
+
+    // 0 or 7, the paper's number.
+    pub fn number(self) -> u32
+        ensures { λ r. ⌜ r ≡ sumNumber self ⌝ }
+    {
+        match self {
+            InSeconds::Sum(_) => 0,
+            InSeconds::Over => 7,
+        }
     }
 }

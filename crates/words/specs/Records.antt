@@ -11,7 +11,9 @@ use Rattle.types.specs.declared.Time.{Time}
 use Rattle.types.specs.declared.Date.{Date}
 use Rattle.types.specs.declared.Date.the-variants.{YMD, Week, Ordinal}
 use Rattle.types.specs.declared.Duration.{Duration}
-use Rattle.types.specs.Sums.{minutesInAll, secondsOf}
+use Rattle.types.specs.declared.InSeconds.{InSeconds}
+use Rattle.types.specs.declared.InSeconds.the-variants.{Sum, Over}
+use Rattle.types.specs.Sums.{minutesInAll, inSeconds}
 use Rattle.words.specs.Words.{signedWord}
 use Rattle.words.specs.declared.word.Name.the-variants as name
 use Rattle.words.specs.declared.word.Word.{Word}
@@ -52,8 +54,13 @@ dateWords (YMD y m d) = Named name.Ymd ∷ signedWord y ∷ Number m ∷ Number 
 dateWords (Week y w d) = Named name.Week ∷ signedWord y ∷ Number w ∷ Number d ∷ []
 dateWords (Ordinal y d) = Named name.Ordinal ∷ signedWord y ∷ Number d ∷ []
 
+-- "`over` for SECONDS where the sum is refused"
+abbrev pub secondsWord : InSeconds → Word
+secondsWord (Sum n) = Number n
+secondsWord Over = Named name.Over
+
 -- `duration Y MO W D H MI S SECONDS`
 abbrev pub durationWords : Duration → List Word
 durationWords v =
     Named name.Duration ∷ Number (v .years) ∷ Number (v .months) ∷ Number (v .weeks) ∷ Number (v .days) ∷ Number (v .hours)
-    ∷ Number (v .minutes) ∷ Number (v .seconds) ∷ Number (secondsOf v) ∷ []
+    ∷ Number (v .minutes) ∷ Number (v .seconds) ∷ secondsWord (inSeconds v) ∷ []

@@ -20,6 +20,7 @@ lettersOf name.Duration = 100 ∷ 117 ∷ 114 ∷ 97 ∷ 116 ∷ 105 ∷ 111 ∷
 lettersOf name.Settled = 115 ∷ 101 ∷ 116 ∷ 116 ∷ 108 ∷ 101 ∷ 100 ∷ []
 lettersOf name.Open = 111 ∷ 112 ∷ 101 ∷ 110 ∷ []
 lettersOf name.None = 110 ∷ 111 ∷ 110 ∷ 101 ∷ []
+lettersOf name.Over = 111 ∷ 118 ∷ 101 ∷ 114 ∷ []
 lettersOf name.Dash = 45 ∷ []
 lettersOf name.Unknown = 117 ∷ 110 ∷ 107 ∷ 110 ∷ 111 ∷ 119 ∷ 110 ∷ []
 

@@ -2,13 +2,14 @@
 ghost use mathlib.Core.Path.{_≡_};
 ghost use mathlib.Core.List.{[], _∷_};
 ghost use Rattle.words.specs.Words.{textOf};
-ghost use Rattle.words.specs.Records.{verdictWord, shownWord, headWords, offsetWords, timeOffsetWord, timeWords, dateWords, durationWords};
+ghost use Rattle.words.specs.Records.{verdictWord, shownWord, headWords, offsetWords, timeOffsetWord, timeWords, dateWords, secondsWord, durationWords};
 use crate::word::Name;
 use crate::word::Word;
 use crate::word::signed;
 use crate::word::small;
 use types::Date;
 use types::Duration;
+use types::InSeconds;
 use types::Offset;
 use types::Time;
 use types::TimeOffset;
@@ -123,19 +124,29 @@ pub fn date(v: Date) -> [Word; 9]
     }
 }
 
+// The seconds in all, or over
+fn seconds_word(v: InSeconds) -> Word
+    ensures { λ r. ⌜ r ≡ secondsWord v ⌝ }
+{
+    match v {
+        InSeconds::Sum(n) => Word::Number(n),
+        InSeconds::Over => Word::Name(Name::Over),
+    }
+}
+
 // duration Y MO W D H MI S SECONDS
 pub fn duration(v: Duration) -> [Word; 9]
     ensures { λ r. ⌜ textOf r ≡ textOf (durationWords v) ⌝ }
 {
     [
         Word::Name(Name::Duration),
-        Word::Number(v.years as u64),
-        Word::Number(v.months as u64),
-        Word::Number(v.weeks as u64),
-        Word::Number(v.days as u64),
-        Word::Number(v.hours as u64),
-        Word::Number(v.minutes as u64),
-        Word::Number(v.seconds as u64),
-        Word::Number(v.in_seconds()),
+        Word::Number(v.years),
+        Word::Number(v.months),
+        Word::Number(v.weeks),
+        Word::Number(v.days),
+        Word::Number(v.hours),
+        Word::Number(v.minutes),
+        Word::Number(v.seconds),
+        seconds_word(v.in_seconds()),
     ]
 }

@@ -12,6 +12,7 @@ pub enum Name {
     Settled,
     Open,
     None,
+    Over,
     Dash,
     Unknown,
 }
@@ -38,6 +39,7 @@ pub fn letters(name: Name) -> u64
         Name::Settled => 0x64656c74746573, // settled
         Name::Open => 0x6e65706f, // open
         Name::None => 0x656e6f6e, // none
+        Name::Over => 0x7265766f, // over
         Name::Dash => 0x2d, // -
         Name::Unknown => 0x6e776f6e6b6e75, // unknown
     }

@@ -68,9 +68,9 @@ pub reads-back : (c : Choices) (r : Record) → Readable (ruleOf (kindOf c r)) r
 reads-back c = either-reading (c .edition) (c .reading) (c .reading)
 
 -- no spelling is longer than a duration's
-pub spelling-short : (c : Choices) (r : Record) → Readable (ruleOf (kindOf c r)) r → length (spelling r) ≤ 79
+pub spelling-short : (c : Choices) (r : Record) → Readable (ruleOf (kindOf c r)) r → length (spelling r) ≤ 149
 spelling-short c (record-of.Date v) h = omega (arith, date-short v)
 spelling-short c (record-of.Time v) h = omega (arith, time-short v)
 spelling-short c (record-of.Offset v) h = omega (arith, offset-short v)
 spelling-short c (record-of.Stamp v) h = omega (arith, longest-stamp v)
-spelling-short c (record-of.Duration v) h = longest-duration v (duration-spells .ranges v (readable-back record-of.Duration (λ a b e. cc) h))
+spelling-short c (record-of.Duration v) h = longest-duration v

@@ -9,9 +9,9 @@ use native.Mathlib.Omega.{arith}
 use borrow.Author.Tests.{leb-true}
 use lib.ListN.{length, drop}
 use Rattle.parser.specs.Reading.{Found, no, got, stop, Reader, then, lack, orElse, keep, keepOrStop, mapFound, lit, seq, opt, alt, verify, must, map, give, pick}
-use Rattle.parser.specs.Digits.{field, digits, number, ofRun, atMost, limit, runAs, run}
+use Rattle.parser.specs.Digits.{field, digits, number, atMost, limit, runAs, run}
 use Rattle.parser.specs.Fields.{precededBy, orZero}
-use Rattle.parser.proofs.Places.{no≢got, stop≢got, got-value, got-place}
+use Rattle.parser.proofs.Places.{no≢got, stop≢got, got-value, got-place, run-found}
 use Rattle.parser.proofs.Leaves.{From, field-within}
 
 -- ---- what was found, by what its parts found
@@ -151,16 +151,7 @@ absent-within hi (some v) f = f .1
 
 -- what holds of all digits with such a number holds of what a run of them is read as
 pub run-as-yields : {A : Type 0} {F : A → Type 0} (f : List ℕ → A) (may : ℕ → Bool) (r : ℕ) → ((l : List ℕ) → may (number (digits l)) ≡ true → F (f (digits l))) → Yields F (runAs f may r)
-unfolding runAs
-run-as-yields {A} {F} f may r h = record { fact = λ s at a n e. go (digits (drop at s)) at a n (h (drop at s)) e }
-  where
-    within : (d : List ℕ) (at : ℕ) (a : A) (n : ℕ) → (may (number d) ≡ true → F (f d)) → (t : Bool) → may (number d) ≡ t → pick t (got (f d) (at + length d)) (stop r) ≡ got a n → F a
-    within d at a n k true i e = let same : f d ≡ a = got-value e in rw (← same) (k i)
-    within d at a n k false i e = absurd (stop≢got e)
-
-    go : (d : List ℕ) (at : ℕ) (a : A) (n : ℕ) → (may (number d) ≡ true → F (f d)) → ofRun d no (pick (may (number d)) (got (f d) (at + length d)) (stop r)) ≡ got a n → F a
-    go [] at a n k e = absurd (no≢got e)
-    go (b ∷ d) at a n k e = within (b ∷ d) at a n k (may (number (b ∷ d))) refl e
+run-as-yields f may r h = record { fact = λ s at a n e. let d = run-found f may r s at a n e in rw (← d .value) (h (drop at s) (d .may-be)) }
 
 pub run-yields : Yields (λ v. v ≤ limit) run
 run-yields = run-as-yields number (atMost limit) 2 (λ l h. leb-true (number (digits l)) limit h)

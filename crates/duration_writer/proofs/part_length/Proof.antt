@@ -5,8 +5,9 @@ use borrow.Author.Tests.{eq-eqb}
 use native.Mathlib.Omega.{arith}
 use lib.ListN.{length}
 use Rattle.text.specs.Text.{decimal}
+use Rattle.text.proofs.Decimals.{digits-short}
 use Rattle.writing.specs.Spelling.{partSpelling}
-use Rattle.duration_writer.proofs.Sizes.{one-digit, decimal-less, decimal-most, part-size}
+use Rattle.duration_writer.proofs.Sizes.{one-digit, decimal-less, part-size}
 use Rattle.duration_writer.proofs.part_length.Statement.{statement}
 use Rattle.duration_writer.proofs.part_length.Tie as tie
 
@@ -24,7 +25,7 @@ returns-2 : tie.Need-returns-2 Inv-loop μ-loop
 returns-2 c =
     let n = c .before .before .before .args .n in
     let last : length (decimal (c .before .loop .rest)) ≡ 1 = rw (one-digit 19 (c .before .loop .rest) (omega arith)) in
-    (λ letter. omega (arith, part-size n letter (omega arith)), omega (arith, decimal-most n (omega arith)))
+    (λ letter. omega (arith, part-size n letter (omega arith)), omega (arith, digits-short 20 n))
 
 pub part-length-spec : {M : Type 1} → statement M
 part-length-spec =
@@ -34,7 +35,7 @@ part-length-spec =
     μ-loop
     returns
     (λ c. omega arith)
-    (λ c. omega (arith, decimal-most (c .before .before .before .args .n) (omega arith)))
+    (λ c. omega (arith, digits-short 20 (c .before .before .before .args .n)))
     (λ c. omega arith)
     (λ c. omega (arith, decimal-less (c .before .loop .rest) (omega arith) (omega arith)))
     returns-2)

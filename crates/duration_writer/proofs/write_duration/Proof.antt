@@ -1,4 +1,4 @@
--- The length first, then the bytes. A number of 32 bits is within the limit, so that some reader gives every record.
+-- The length first, then the bytes. A number of 64 bits is within the limit, so that some reader gives every record.
 use native.Mathlib.Omega.{arith}
 use borrow.Author.Needs.{needs}
 use Rattle.duration.specs.Rules.{duration}

@@ -7,8 +7,8 @@ use Rattle.parts.proofs.later_part.Tie as tie
 two-part-requires : tie.Need-two-part-requires
 two-part-requires c κs = search needs
 
-add-t6 : tie.Need-add-t6
-add-t6 c =
+add-t7 : tie.Need-add-t7
+add-t7 c =
     let x1 = c .before in
     let inside = x1 .two-part .ensures .0 (c .if1 .taken) in
     search needs
@@ -38,7 +38,8 @@ later-part-spec =
     tie.close
     (tie.spec
     two-part-requires
-    add-t6
+    (λ c. search needs)
+    add-t7
     returns
     absent-requires
     returns-2

@@ -119,8 +119,8 @@ returns-3 c =
     let e = run-other (a .s .now) (l .next) (above-digits (a .s .now) (l .next) (omega arith) (omega arith)) in
     rw (c .found-run3 .ensures) (ended (a .s .now) (a .at) (l .value) (l .next) (l .place) (l .inv) false e (end-is-not (a .s .now) (a .at) (l .next) (at-its-end (a .s .now) (a .at) (l .value) (l .next) (l .place) (l .inv) e) (omega arith)))
 
-cast-value : tie.Need-cast-value Inv-loop μ-loop
-cast-value c = omega arith
+cast-worth : tie.Need-cast-worth Inv-loop μ-loop
+cast-worth c = omega arith
 
 factor-requires : tie.Need-factor-requires Inv-loop μ-loop
 factor-requires c κs = omega arith
@@ -131,8 +131,11 @@ loop-again c =
     let l = c .before .before .before .before .before .before .loop in
     nine-step (a .s .now) (a .at) (l .value) (l .next) (l .place) (l .inv) (c .factor .result) (c .factor .ensures) (omega arith) (digit-at (a .s .now) (l .next) (omega arith) (omega arith) (omega arith))
 
-mul-value : tie.Need-mul-value Inv-loop μ-loop
-mul-value c = omega (arith, nine-small _ _ _ _ _ (loop-again c))
+mul-worth : tie.Need-mul-worth Inv-loop μ-loop
+mul-worth c = omega (arith, nine-small _ _ _ _ _ (loop-again c))
+
+cast-value : tie.Need-cast-value Inv-loop μ-loop
+cast-value c = omega (arith, nine-small _ _ _ _ _ (loop-again c))
 
 add-value : tie.Need-add-value Inv-loop μ-loop
 add-value c = omega (arith, nine-small _ _ _ _ _ (loop-again c))
@@ -169,9 +172,10 @@ fraction-nanosecond-spec =
     returns-2
     found-run-requires-3
     returns-3
-    cast-value
+    cast-worth
     factor-requires
-    mul-value
+    mul-worth
+    cast-value
     add-value
     add-next
     add-place

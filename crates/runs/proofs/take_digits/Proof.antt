@@ -1,11 +1,12 @@
 -- The loop goes along the run. A number past the limit ends it early, since no digit brings it back.
-use Prim.Native.Nat.{_-_, _<_}
+use Prim.Native.Nat.{_-_, _≤_}
 use mathlib.Core.Bool.{true, false}
-use mathlib.Core.Path.{ap}
+use mathlib.Core.Path.{sym, ap, _∙_}
 use native.Mathlib.Omega.{arith}
 use lib.ListN.{length}
 use borrow.Author.Needs.{needs}
-use Rattle.parser.specs.Digits.{number}
+use borrow.Author.Tests.{ltb-true, ltb-false}
+use Rattle.parser.specs.Digits.{number, limit}
 use Rattle.parser.proofs.Fields.{digit-at, below-digits, above-digits}
 use Rattle.parser.proofs.Runs.{run-other, run-end, end-is, end-is-not}
 use Rattle.runs.proofs.Along.{Along, along-start, along-step, ended, past}
@@ -13,7 +14,7 @@ use Rattle.runs.proofs.take_digits.Statement.{statement}
 use Rattle.runs.proofs.take_digits.Tie as tie
 
 abbrev Inv-loop : tie.InvT-loop
-Inv-loop s at value₀ next₀ value next = Along s at value next × (value < 4294967296)
+Inv-loop s at value₀ next₀ value next = Along s at value next × (value ≤ limit)
 
 abbrev μ-loop : tie.MeasureT-loop
 μ-loop s at value₀ next₀ value next = length s - next
@@ -32,7 +33,7 @@ returns c =
     let a = c .before .before .before .before .before .before .args in
     let l = c .before .before .before .before .loop in
     let e = run-other (a .s .now) (l .next) (below-digits (a .s .now) (l .next) (omega arith) (omega arith)) in
-    rw (c .found-run .ensures) (ended number 4294967295 2 (a .s .now) (a .at) (l .value) (l .next) (l .inv .0) (λ v n. v) false (omega (arith, l .inv .1)) e (end-is-not (a .s .now) (a .at) (l .next) (omega (arith, l .inv .0 .ends, ap length e)) (omega arith)) (λ d n end. n))
+    rw (c .found-run .ensures) (ended number limit 2 (a .s .now) (a .at) (l .value) (l .next) (l .inv .0) (λ v n. v) false (omega (arith, l .inv .1)) e (end-is-not (a .s .now) (a .at) (l .next) (omega (arith, l .inv .0 .ends, ap length e)) (omega arith)) (λ d n end. n))
 
 found-run-requires-2 : tie.Need-found-run-requires-2 Inv-loop μ-loop
 found-run-requires-2 c κs = search needs
@@ -42,40 +43,37 @@ returns-2 c =
     let a = c .before .before .before .before .before .before .before .args in
     let l = c .before .before .before .before .before .loop in
     let e = run-other (a .s .now) (l .next) (above-digits (a .s .now) (l .next) (omega arith) (omega arith)) in
-    rw (c .found-run2 .ensures) (ended number 4294967295 2 (a .s .now) (a .at) (l .value) (l .next) (l .inv .0) (λ v n. v) false (omega (arith, l .inv .1)) e (end-is-not (a .s .now) (a .at) (l .next) (omega (arith, l .inv .0 .ends, ap length e)) (omega arith)) (λ d n end. n))
+    rw (c .found-run2 .ensures) (ended number limit 2 (a .s .now) (a .at) (l .value) (l .next) (l .inv .0) (λ v n. v) false (omega (arith, l .inv .1)) e (end-is-not (a .s .now) (a .at) (l .next) (omega (arith, l .inv .0 .ends, ap length e)) (omega arith)) (λ d n end. n))
 
-cast-wide : tie.Need-cast-wide Inv-loop μ-loop
-cast-wide c = omega arith
-
-mul-wide : tie.Need-mul-wide Inv-loop μ-loop
-mul-wide c = omega arith
-
-cast-wide-2 : tie.Need-cast-wide-2 Inv-loop μ-loop
-cast-wide-2 c = omega arith
-
-add-wide : tie.Need-add-wide Inv-loop μ-loop
-add-wide c = omega arith
+is-past-requires : tie.Need-is-past-requires Inv-loop μ-loop
+is-past-requires c κs = omega arith
 
 returns-3 : tie.Need-returns-3 Inv-loop μ-loop
 returns-3 c =
-    let a = c .before .before .before .before .before .before .before .args in
-    let l = c .before .before .before .before .before .loop in
-    past number 4294967295 2 (a .s .now) (a .at) (l .value) (l .next) (l .inv .0) (digit-at (a .s .now) (l .next) (omega arith) (omega arith) (omega arith)) (omega arith)
+    let a = c .before .before .before .before .before .before .before .before .args in
+    let l = c .before .before .before .before .before .before .loop in
+    past number limit 2 (a .s .now) (a .at) (l .value) (l .next) (l .inv .0) (digit-at (a .s .now) (l .next) (omega arith) (omega arith) (omega arith)) (ltb-true limit _ (sym (c .before .is-past .ensures) ∙ c .if3 .taken))
+
+loop-again : tie.Need-loop-again Inv-loop μ-loop
+loop-again c =
+    let a = c .before .before .before .before .before .before .before .before .args in
+    let l = c .before .before .before .before .before .before .loop in
+    (along-step (a .s .now) (a .at) (l .value) (l .next) (l .inv .0) (digit-at (a .s .now) (l .next) (omega arith) (omega arith) (omega arith)), ltb-false limit _ (sym (c .before .is-past .ensures) ∙ c .if3 .left))
+
+mul-value : tie.Need-mul-value Inv-loop μ-loop
+mul-value c = omega (arith, loop-again c .1)
 
 cast-value : tie.Need-cast-value Inv-loop μ-loop
 cast-value c = omega arith
+
+add-value : tie.Need-add-value Inv-loop μ-loop
+add-value c = omega (arith, loop-again c .1)
 
 add-next : tie.Need-add-next Inv-loop μ-loop
 add-next c = omega arith
 
 loop-less : tie.Need-loop-less Inv-loop μ-loop
 loop-less c = omega arith
-
-loop-again : tie.Need-loop-again Inv-loop μ-loop
-loop-again c =
-    let a = c .before .before .before .before .before .before .before .args in
-    let l = c .before .before .before .before .before .loop in
-    (along-step (a .s .now) (a .at) (l .value) (l .next) (l .inv .0) (digit-at (a .s .now) (l .next) (omega arith) (omega arith) (omega arith)), omega arith)
 
 found-run-requires-3 : tie.Need-found-run-requires-3 Inv-loop μ-loop
 found-run-requires-3 c κs = search needs
@@ -85,7 +83,7 @@ returns-4 c =
     let a = c .before .before .before .before .args in
     let l = c .before .before .loop in
     let e = run-end (a .s .now) (l .next) (omega arith) in
-    rw (c .found-run3 .ensures) (ended number 4294967295 2 (a .s .now) (a .at) (l .value) (l .next) (l .inv .0) (λ v n. v) true (omega (arith, l .inv .1)) e (end-is (a .s .now) (a .at) (l .next) (omega (arith, l .inv .0 .ends, ap length e)) (omega arith)) (λ d n end. n))
+    rw (c .found-run3 .ensures) (ended number limit 2 (a .s .now) (a .at) (l .value) (l .next) (l .inv .0) (λ v n. v) true (omega (arith, l .inv .1)) e (end-is (a .s .now) (a .at) (l .next) (omega (arith, l .inv .0 .ends, ap length e)) (omega arith)) (λ d n end. n))
 
 pub take-digits-spec : {M : Type 1} → statement M
 take-digits-spec =
@@ -99,12 +97,11 @@ take-digits-spec =
     returns
     found-run-requires-2
     returns-2
-    cast-wide
-    mul-wide
-    cast-wide-2
-    add-wide
+    is-past-requires
     returns-3
+    mul-value
     cast-value
+    add-value
     add-next
     loop-less
     loop-again

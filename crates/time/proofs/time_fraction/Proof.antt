@@ -1,13 +1,17 @@
 -- A comma or point, and the digits behind it, which are counted by the unit.
-use Prim.Native.Nat.{ℕ}
+use Prim.Native.Nat.{ℕ, _<_}
 use mathlib.Core.List.{List}
 use mathlib.Core.Bool.{Bool, true, false}
 use mathlib.Core.Path.{_≡_, sym}
+use native.Mathlib.Omega.{arith}
+use lib.ListN.{drop}
 use Rattle.types.specs.declared.Fraction.{Fraction}
 use Rattle.parser.specs.Reading.{Found, Reader, Says, no, got, stop, seq, mapFound}
 use Rattle.parser.specs.Fields.{either}
 use Rattle.parser.specs.Digits.{fractionOf}
 use Rattle.parser.proofs.Ahead.{run-ahead}
+use Rattle.parser.proofs.Places.{run-found}
+use Rattle.runs.proofs.Nanoseconds.{nanoseconds-small}
 use Rattle.parser.proofs.Says.{says-map, says-seq-got, says-seq-no}
 use Rattle.time.specs.declared.TimeUnit.{TimeUnit}
 use Rattle.time.specs.Rules.{numbersIf, fractionIf, clockOf, timeFraction}
@@ -30,6 +34,18 @@ module _ (u : TimeUnit) (z : Bool) (mi se : ℕ) (s : List ℕ) (at : ℕ) where
 -- a fraction by its two numbers
 fraction-by : {f : Fraction} {v d : ℕ} → f .nanosecond ≡ v → f .digits ≡ d → f ≡ record { nanosecond = v; digits = d }
 fraction-by e g = rw (← e, ← g)
+
+-- what is read has nine digits
+few-digits : (z : Bool) (s : List ℕ) (at : ℕ) (f : Fraction) (n : ℕ) (m : Bool) → Says (fractionIf z) s at (got f n) m → f .nanosecond < 1000000000
+few-digits z s at f n m h =
+    rw (← run-found fractionOf (numbersIf z) 1 s at f n (sym (h .found)) .value) (nanoseconds-small (drop at s))
+
+cast-fraction-of : tie.Need-cast-fraction-of
+cast-fraction-of c =
+    let d = c .before in
+    let a = d .before .before .before .before .before .before .before .before .args in
+    let frac = rw (d .fraction .given .1) at (d .before .before .fraction-at .ensures) in
+    omega (arith, few-digits (a .zero) (a .s .now) _ _ _ _ frac)
 
 sub-fraction-of : tie.Need-sub-fraction-of
 sub-fraction-of c =
@@ -84,6 +100,7 @@ time-fraction-spec =
     tie.close
     (tie.spec
     (λ c κs. search needs) (λ c. search needs) (λ c κs. search needs) (λ c. search needs)
+    cast-fraction-of
     sub-fraction-of
     (λ c κs. search needs) (λ c κs. search needs) (λ c. search needs) (λ c. search needs) (λ c. search needs) (λ c. search needs) (λ c. search needs)
     returns

@@ -7,6 +7,6 @@ pub duration-spec : {M : Type 1} → statement M
 duration-spec =
     tie.close
     (tie.spec
-    (λ c. search needs) (λ c. search needs) (λ c. search needs) (λ c. search needs) (λ c. search needs) (λ c. search needs) (λ c. search needs)
     (λ c κs. search needs)
-    (λ c. rw (c .in-seconds .ensures)))
+    (λ c κs. search needs)
+    (λ c. rw (c .seconds-word .ensures, c .before .in-seconds .ensures)))
