@@ -8,7 +8,7 @@ ghost use mathlib.Core.Path.{_≡_};
 ghost use lib.ListN.{length, drop};
 ghost use Rattle.parser.specs.Digits.{isDigit};
 ghost use Rattle.shortening.specs.Points.{isPoint};
-ghost use Rattle.arriving.specs.Keeping.{dropsZeros, joined, joinsTo, nextMark, zeroRun, pushes, started, stepped, Answers, Ends};
+ghost use Rattle.arriving.specs.Keeping.{dropsZeros, joined, joinsTo, nextMark, zeroRun, started, stepped, Answers, Ends};
 use kinds::answer::Answer;
 use kinds::answer::Kind;
 use kinds::answer::Read;
@@ -124,47 +124,6 @@ fn run_end(piece: &[u8], i: usize) -> usize
     }
 }
 
-// Each byte of the piece in turn, while there is room; what is left is only counted.
-fn push(mut state: State, piece: &[u8]) -> State
-    requires { ⌜ state .accepted + length (now piece) ≤ 4294967295 ⌝ }
-    ensures { λ r. ⌜ r ≡ pushes state (now (piece .entry)) ⌝ }
-{
-    let zeros = drops_zeros(state.kind);
-    let mut len = state.len;
-    let mut mark = state.mark;
-    let mut accepted = state.accepted;
-    let mut i = 0;
-    while i < piece.len() {
-        if ROOM <= len {
-            break;
-        }
-        let b = piece[i];
-        let next = next_mark(zeros, mark, b);
-        if joins(mark, len, b) {
-            let last = len - 1;
-            let old = state.kept[last];
-            let end = run_end(piece, i);
-            let many = (end - i) as u32;
-            accepted += many;
-            state.kept[last] = join(old, b);
-            state.places[last] = accepted - 1;
-            i = end;
-        } else {
-            state.kept[len] = b;
-            state.places[len] = accepted;
-            len += 1;
-            accepted += 1;
-            i += 1;
-        }
-        mark = next;
-    }
-    state.len = len;
-    state.mark = mark;
-    let left = (piece.len() - i) as u32;
-    state.accepted = accepted + left;
-    state
-}
-
 // Nothing accepted yet, of a record of the kind.
 pub fn start(kind: Kind) -> State
     ensures { λ r. ⌜ r ≡ started kind ⌝ }
@@ -180,18 +139,45 @@ pub fn start(kind: Kind) -> State
     }
 }
 
-// Accepts a piece, of no bytes or many, or refuses it whole.
-pub fn step(state: State, piece: &[u8]) -> Stepped
+// Accepts a piece, of no bytes or many, or refuses it whole. Each byte in turn, while there is room; what is left is only counted.
+pub fn step(mut state: State, piece: &[u8]) -> Stepped
     ensures { λ r. ⌜ r ≡ stepped state (now (piece .entry)) ⌝ }
 {
-    let accepted = state.accepted as usize;
-    if MOST - accepted < piece.len() {
+    let mut accepted = state.accepted;
+    if MOST - (accepted as usize) < piece.len() {
         return Stepped { state, number: 6 };
     }
-    Stepped {
-        state: push(state, piece),
-        number: 0,
+    let zeros = drops_zeros(state.kind);
+    let mut len = state.len;
+    let mut mark = state.mark;
+    let mut i = 0;
+    while i < piece.len() {
+        if ROOM <= len {
+            break;
+        }
+        let b = piece[i];
+        let next = next_mark(zeros, mark, b);
+        if joins(mark, len, b) {
+            let last = len - 1;
+            let old = state.kept[last];
+            let end = run_end(piece, i);
+            accepted += (end - i) as u32;
+            state.kept[last] = join(old, b);
+            state.places[last] = accepted - 1;
+            i = end;
+        } else {
+            state.kept[len] = b;
+            state.places[len] = accepted;
+            len += 1;
+            accepted += 1;
+            i += 1;
+        }
+        mark = next;
     }
+    state.len = len;
+    state.mark = mark;
+    state.accepted = accepted + (piece.len() - i) as u32;
+    Stepped { state, number: 0 }
 }
 
 // No more than there is room for.
