@@ -1,4 +1,5 @@
 pub mod Laws
 pub mod Items
+pub mod Looks
 pub mod Reading
 pub mod Whole

@@ -1,23 +1,22 @@
 -- What the code makes of the time is what the rules read: part by part, each from the place that the one before it left.
-use Prim.Native.Nat.{ℕ, _<_, _≤_}
+use Prim.Native.Nat.{ℕ, _+_, _<_, _≤_}
 use mathlib.Core.List.{List}
 use mathlib.Core.Bool.{Bool, true, false}
 use mathlib.Core.Option.{some, none}
 use mathlib.Core.Path.{_≡_, refl, sym, _∙_}
 use native.Mathlib.Omega.{arith}
-use lib.ListN.{length}
+use lib.ListN.{length, getD}
 use lib.Dec.{ltb, eqb}
 use borrow.Author.Tests.{ltb-true, ltb-false, lt-ltb, le-ltb}
-use Rattle.parser.specs.Reading.{Found, no, got, stop, lit, seq, opt, verify, keep, map, mapFound, give, pick, or, Says}
+use Rattle.parser.specs.Reading.{Found, no, got, stop, lit, seq, opt, verify, keep, map, mapFound, give, pick, or, and, Says}
+use Rattle.parser.specs.Read.{placeAfter}
 use Rattle.parser.proofs.Fields.{true≢false}
 use Rattle.parser.proofs.Says.{says-map, says-verify, says-opt, says-seq-got}
 use Rattle.parser.specs.Fields.{orZero}
 use Rattle.duration.specs.Rules.{part, present, TimeParts, someTime, timeOf, durationBaseTime, durationTime}
-use Rattle.duration.specs.Answer.{timeFound, timeMore}
 use Rattle.parts.specs.Items.{itemAt, here, past, absentPart, partAt}
 use Rattle.duration.specs.Items.{isCut, unlessTooBig, timeParts}
 use Rattle.duration.specs.declared.DurationTimeParts.{DurationTimeParts}
-use Rattle.duration.specs.declared.TimeFound.{TimeFound}
 use Rattle.parts.specs.declared.Part.{Part}
 use Rattle.parts.specs.declared.Item.{Item}
 use Rattle.parts.specs.declared.Item.the-variants as item
@@ -102,11 +101,11 @@ module _ (s : List ℕ) (at : ℕ) (h m x : Part) (eh : h ≡ partAt s at 72) (e
       go item.Wrong l k = absurd (omega arith)
       go item.Cut l k = absurd (omega arith)
 
-  pub without-seconds : (last : Item) (r : TimeFound) → x .next ≤ m .next → last ≡ itemAt s (m .next) → timeFound r ≡ unlessTooBig last (timeParts at h m (absentPart (m .next))) → timeMore r ≡ isCut last → Says durationBaseTime s at (timeFound r) (timeMore r)
-  without-seconds last r le el ef eo =
+  pub without-seconds : x .next ≤ m .next → Says durationBaseTime s at (unlessTooBig (itemAt s (m .next)) (timeParts at h m (absentPart (m .next)))) (isCut (itemAt s (m .next)))
+  without-seconds le =
       let l : past 83 (m .next) (itemAt s (m .next)) ≤ m .next = rw ex at le in
       let none-there : x ≡ absentPart (m .next) = ex ∙ part-absent (m .next) (itemAt s (m .next)) (further 83 s (m .next) .there ∙ le-ltb _ _ l) in
-      rw (ef, eo, el) (rw none-there at time-made)
+      rw none-there at time-made
 
 base-heeds : (s : List ℕ) (at : ℕ) → Heeds durationBaseTime s at
 unfolding durationBaseTime map verify
@@ -120,12 +119,12 @@ pub or-false : (m : Bool) → or m false ≡ m
 or-false true = refl
 or-false false = refl
 
-pub time-with : (s : List ℕ) (at n : ℕ) (u : Unit) (f : Found DurationTimeParts) (m : Bool) → Says (lit 84) s at (got u n) false → Says durationBaseTime s n f m → Says durationTime s at f m
+time-with : (s : List ℕ) (at n : ℕ) (u : Unit) (f : Found DurationTimeParts) (m : Bool) → Says (lit 84) s at (got u n) false → Says durationBaseTime s n f m → Says durationTime s at f m
 unfolding durationTime
 time-with s at n u f m t k = says-seq-got (opt (lit 84)) s at (λ _. durationBaseTime) (some u) n false f m (says-opt (lit 84) s at (got u n) false t) k
 
 -- at the end of the input the parts are open as the `T` is
-pub time-without : (s : List ℕ) (at : ℕ) (f : Found DurationTimeParts) (m : Bool) → no ≡ lit 84 .reads s at → Says durationBaseTime s at f m → Says durationTime s at f m
+time-without : (s : List ℕ) (at : ℕ) (f : Found DurationTimeParts) (m : Bool) → no ≡ lit 84 .reads s at → Says durationBaseTime s at f m → Says durationTime s at f m
 unfolding durationTime lit
 time-without s at f m t k = go (ltb at (length s)) refl
   where
@@ -135,6 +134,16 @@ time-without s at f m t k = go (ltb at (length s)) refl
     go : (b : Bool) → ltb at (length s) ≡ b → Says (seq (opt (lit 84)) (λ _. durationBaseTime)) s at f m
     go true e = without false (rw e)
     go false e = rw (k .more ∙ base-heeds s at .opens (end-item s at (ltb-false at (length s) e))) (without true (rw e))
+
+-- from the place behind its `T`, if there is one
+pub time-at : (s : List ℕ) (at n : ℕ) (f : Found DurationTimeParts) (m : Bool) → n ≡ placeAfter at (lit 84 .reads s at) → Says durationBaseTime s n f m → Says durationTime s at f m
+unfolding lit
+time-at s at n f m e k = go (ltb at (length s)) (eqb (getD s at 0) 84) refl refl e
+  where
+    go : (t u : Bool) → ltb at (length s) ≡ t → eqb (getD s at 0) 84 ≡ u → n ≡ placeAfter {A = Unit} at (pick (and t u) (got tt (at + 1)) no) → Says durationTime s at f m
+    go true true i h e = time-with s at (at + 1) tt f m (record { found = rw (i, h); more = rw i }) (rw e at k)
+    go true false i h e = time-without s at f m (rw (i, h)) (rw e at k)
+    go false u i h e = time-without s at f m (rw i) (rw e at k)
 
 pub time-heeds : (s : List ℕ) (at : ℕ) → Heeds durationTime s at
 time-heeds s at = record {

@@ -1,26 +1,28 @@
 -- What the code makes of Y, M, W, D and the time is what the rule reads, `P` and all.
-use Prim.Native.Nat.{ℕ}
+use Prim.Native.Nat.{ℕ, _<_, _≤_}
 use mathlib.Core.List.{List}
 use mathlib.Core.Bool.{Bool, false}
 use mathlib.Core.Option.{Option, some, none}
 use mathlib.Core.Path.{_≡_, refl, sym, _∙_}
 use native.Mathlib.Omega.{arith}
 use lib.Dec.{ltb}
+use borrow.Author.Tests.{le-ltb}
 use Rattle.types.specs.declared.Duration.{Duration}
-use Rattle.parser.specs.Reading.{Found, no, got, stop, lit, seq, opt, lack, verify, keep, map, mapFound, give, or, Says}
+use Rattle.parser.specs.Reading.{Found, no, got, stop, Reader, lit, seq, opt, lack, verify, keep, map, mapFound, give, or, Says}
 use Rattle.parser.proofs.Says.{says-map, says-verify, says-opt, says-seq-got, says-seq-no, says-seq-stop}
 use Rattle.parser.specs.Fields.{orZero}
-use Rattle.duration.specs.Rules.{present, durationTime, partsRule, somePart, durationOf, duration}
-use Rattle.duration.specs.Answer.{timeFound, timeMore, durationFound, durationMore}
-use Rattle.parts.specs.Items.{itemAt, here, past, partAt}
-use Rattle.duration.specs.Items.{allParts}
+use Rattle.duration.specs.Rules.{present, durationBaseTime, durationTime, partsRule, somePart, durationOf, duration}
+use Rattle.parts.specs.Items.{itemAt, here, past, absentPart, partAt}
+use Rattle.duration.specs.Items.{isCut, timeParts, recordOf, allParts}
+use Rattle.duration.specs.Looks.{longRun, noPart, Short, Starts, DateParts}
 use Rattle.duration.specs.declared.DurationTimeParts.{DurationTimeParts}
-use Rattle.duration.specs.declared.TimeFound.{TimeFound}
-use Rattle.duration.specs.declared.DurationFound.{DurationFound}
+use Rattle.duration.specs.declared.Looked.{Looked}
+use Rattle.duration.specs.declared.Start.{Start}
 use Rattle.parts.specs.declared.Part.{Part}
 use Rattle.duration.proofs.Items.{Heeds, part-heeds, optional-part, map-pick, further}
 use Rattle.duration.proofs.Laws.{or-true, parts, from-time, from-days, from-weeks, from-months}
-use Rattle.duration.proofs.Reading.{or-false, or-lt, time-heeds}
+use Rattle.duration.proofs.Looks.{look-stands, look-absent}
+use Rattle.duration.proofs.Reading.{or-false, or-lt, with-seconds, without-seconds, time-at, time-heeds}
 
 -- ---- the optional time at the end
 
@@ -86,12 +88,63 @@ all-parts s at f m k =
     let some : or (present y) (or (present mo) (or (present w) (present d))) ≡ ltb at tat = rw (yf .there, mf .there, wf .there, df .there) (or-lt at mat tat _ (yf .order) (omega arith) (or-lt mat wat tat _ (mf .order) (omega arith) (or-lt wat dat tat _ (wf .order) (df .order) refl))) in
     record { found = sym (kept-parts at mat wat dat tat y mo w d some f) ∙ whole .found; more = whole .more }
 
-pub parts-made : (s : List ℕ) (at : ℕ) (y mo w d : Part) (t : TimeFound) (r : DurationFound) → y ≡ partAt s at 89 → mo ≡ partAt s (y .next) 77 → w ≡ partAt s (mo .next) 87 → d ≡ partAt s (w .next) 68 → Says durationTime s (d .next) (timeFound t) (timeMore t) → durationFound r ≡ allParts at y mo w d (timeFound t) → durationMore r ≡ timeMore t → Says (map durationOf (verify somePart partsRule)) s at (durationFound r) (durationMore r)
-parts-made s at y mo w d t r ey em ew ed k ef eo = rw (ef, eo, ed, ew, em, ey) (all-parts s at (timeFound t) (timeMore t) (rw (ed, ew, em, ey) at k))
+abbrev whole : Reader Duration
+whole = map durationOf (verify somePart partsRule)
+
+pub parts-made : (s : List ℕ) (at : ℕ) (y mo w d : Part) (f : Found DurationTimeParts) (m : Bool) (g : Found Duration) → DateParts s at y mo w d → Says durationTime s (d .next) f m → g ≡ allParts at y mo w d f → Says whole s at g m
+parts-made s at y mo w d f m g e k eg = rw (eg, e .days, e .weeks, e .months, e .years) (all-parts s at f m (rw (e .days, e .weeks, e .months, e .years) at k))
+
+-- ---- the same by looks
+
+module _ (s : List ℕ) (at l : ℕ) (y mo w d : Looked) (years : Short s at 89 l y) (months : Short s (y .part .next) 77 (y .look) mo) (weeks : Short s (mo .part .next) 87 (mo .look) w) (days : Short s (w .part .next) 68 (w .look) d) where
+  pub date-made : (d .look ≡ longRun → ⊥) → DateParts s at (y .part) (mo .part) (w .part) (d .part)
+  date-made n =
+      let short-w : w .look ≡ longRun → ⊥ = λ q. n (days .long q .0) in
+      let short-mo : mo .look ≡ longRun → ⊥ = λ q. short-w (weeks .long q .0) in
+      let short-y : y .look ≡ longRun → ⊥ = λ q. short-mo (months .long q .0) in
+      record {
+        years = years .part (λ q. short-y (years .long q .0));
+        months = months .part short-y;
+        weeks = weeks .part short-mo;
+        days = days .part short-w;
+      }
+
+module _ (s : List ℕ) (at : ℕ) (y mo w d : Part) (l : ℕ) (date : (l ≡ longRun → ⊥) → DateParts s at y mo w d) (st : Start) (begins : Starts s (d .next) l st) where
+  -- no part of a time
+  pub without-time : (g : Found Duration) → st .look ≡ noPart → g ≡ allParts at y mo w d no → Says whole s at g (isCut (itemAt s (st .next)))
+  without-time g e eg =
+      let from = st .next in
+      let short : st .look ≡ longRun → ⊥ = λ q. omega arith in
+      let absent : (c : ℕ) → c < 256 → absentPart from ≡ partAt s from c = λ c small. sym (look-absent s from (st .look) short c (begins .behind) (λ q. absurd (omega arith)) (λ q. omega arith)) in
+      let k = without-seconds s from (absentPart from) (absentPart from) (absentPart from) (absent 72 (omega arith)) (absent 77 (omega arith)) (absent 83 (omega arith)) (omega arith) in
+      let same : ltb from from ≡ false = le-ltb from from (omega arith) in
+      let none-there : Says durationBaseTime s from no (isCut (itemAt s from)) = rw (look-stands s from (st .look) short (begins .behind) .small _, same) at k in
+      parts-made s at y mo w d no _ g (date (λ q. short (begins .long q))) (time-at s (d .next) from no _ (begins .next) none-there) eg
+
+  module _ (h m x : Looked) (hour : Short s (st .next) 72 (st .look) h) (minute : Short s (h .part .next) 77 (h .look) m) (second : Short s (m .part .next) 83 (m .look) x) where
+    module _ (short : m .look ≡ longRun → ⊥) where
+      short-hour : h .look ≡ longRun → ⊥
+      short-hour q = short (minute .long q .0)
+
+      short-start : st .look ≡ longRun → ⊥
+      short-start q = short-hour (hour .long q .0)
+
+      timed : (f : Found DurationTimeParts) (o : Bool) (g : Found Duration) → Says durationBaseTime s (st .next) f o → g ≡ allParts at y mo w d f → Says whole s at g o
+      timed f o g k eg = parts-made s at y mo w d f o g (date (λ q. short-start (begins .long q))) (time-at s (d .next) (st .next) f o (begins .next) k) eg
+
+      pub without-second : (g : Found Duration) → x .part .next ≤ m .part .next → g ≡ allParts at y mo w d (timeParts (st .next) (h .part) (m .part) (absentPart (m .part .next))) → Says whole s at g (isCut (itemAt s (m .part .next)))
+      without-second g le eg =
+          let k = without-seconds s (st .next) (h .part) (m .part) (x .part) (hour .part short-start) (minute .part short-hour) (second .part short) le in
+          timed _ _ g (rw (look-stands s (m .part .next) (m .look) short (minute .behind) .small _) at k) eg
+
+    pub with-second : (v : Duration) → m .part .next < x .part .next → v ≡ recordOf y mo w d (record { hours = h .part .value; minutes = m .part .value; seconds = x .part .value }) → Says whole s at (got v (x .part .next)) false
+    with-second v lt ev =
+        let short : m .look ≡ longRun → ⊥ = λ q. omega (arith, second .long q .1) in
+        timed short _ _ _ (with-seconds s (st .next) (h .part) (m .part) (x .part) (hour .part (short-start short)) (minute .part (short-hour short)) (second .part short) lt) (rw ev)
 
 -- ---- `P`
 
-pub with-p : (s : List ℕ) (at n : ℕ) (u : Unit) (f : Found Duration) (m : Bool) → Says (lit 80) s at (got u n) false → Says (map durationOf (verify somePart partsRule)) s n f m → Says duration s at f m
+pub with-p : (s : List ℕ) (at n : ℕ) (u : Unit) (f : Found Duration) (m : Bool) → Says (lit 80) s at (got u n) false → Says whole s n f m → Says duration s at f m
 unfolding duration map verify seq
 with-p s at n u f m p k = record { found = rw (← p .found) (k .found); more = rw (← p .found, ← p .more) (k .more) }
 

@@ -1,10 +1,14 @@
-// Durations (duration.rs).
+// Durations (duration.rs). A duration whose runs have one digit or two is read by the bytes where their letters stand; any other is read
+// again from its beginning, run by run.
+ghost use Prim.Native.Nat.{_+_, _<_, _≤_};
 ghost use mathlib.Core.Path.{_≡_};
+ghost use lib.ListN.{length, getD};
 ghost use Rattle.parser.specs.Reading.{no, verify, map, Says};
 ghost use Rattle.duration.specs.Rules.{durationBaseTime, durationTime, partsRule, somePart, durationOf, duration};
 ghost use Rattle.duration.specs.Answer.{timeFound, timeMore, durationFound, durationMore};
-ghost use Rattle.parts.specs.Items.{absentPart};
+ghost use Rattle.parts.specs.Items.{itemAt, absentPart};
 ghost use Rattle.duration.specs.Items.{isCut, unlessTooBig, timeParts, recordOf, allParts};
+ghost use Rattle.duration.specs.Looks.{longRun, Looks, Short, Starts, DateParts};
 use parser::Mark;
 use parts::Item;
 use parts::Part;
@@ -84,20 +88,26 @@ fn time_parts(at: usize, h: Part, m: Part, last: Item) -> TimeFound
     }
 }
 
-// [H][M][S]
-pub fn duration_base_time(s: &[u8], at: usize) -> TimeFound
+// [H][M][S], where it is known what stands at the place
+fn duration_base_time(s: &[u8], at: usize, item: Item) -> TimeFound
+    requires { ⌜ item ≡ itemAt (now s) at ⌝ }
     ensures { λ r. ⌜ Says durationBaseTime (now (s .entry)) at (timeFound r) (timeMore r) ⌝ }
 {
-    let h = parts::duration_part_hour(s, at);
-    let m = parts::duration_part_minute(s, h.next);
-    let before = m.next;
-    let x = parts::duration_part_second(s, before);
-    let next = x.next;
+    let h = parts::duration_part(s, at, 72, item);
+    let hour = h.part;
+    let after_hour = h.item;
+    let m = parts::duration_part(s, hour.next, 77, after_hour);
+    let minute = m.part;
+    let last = m.item;
+    let before = minute.next;
+    let x = parts::duration_part(s, before, 83, last);
+    let second = x.part;
+    let next = second.next;
     if before < next {
         let value = DurationTimeParts {
-            hours: h.value,
-            minutes: m.value,
-            seconds: x.value,
+            hours: hour.value,
+            minutes: minute.value,
+            seconds: second.value,
         };
         return TimeFound::Got {
             value,
@@ -105,19 +115,27 @@ pub fn duration_base_time(s: &[u8], at: usize) -> TimeFound
             more: false,
         };
     }
-    time_parts(at, h, m, parts::duration_item(s, before))
+    time_parts(at, hour, minute, last)
+}
+
+// What stands where a time starts, by what stands where its `T` may.
+fn time_item(s: &[u8], at: usize, item: Item, from: usize) -> Item
+    requires { ⌜ item ≡ itemAt (now s) at ⌝ }
+    ensures { λ r. ⌜ r ≡ itemAt (now (s .entry)) from ⌝ }
+{
+    if from == at {
+        return item;
+    }
+    parts::duration_item(s, from)
 }
 
 // [T][H][M][S]: parses time portion of a duration
-pub fn duration_time(s: &[u8], at: usize) -> TimeFound
+fn duration_time(s: &[u8], at: usize, item: Item) -> TimeFound
+    requires { ⌜ item ≡ itemAt (now s) at ⌝ }
     ensures { λ r. ⌜ Says durationTime (now (s .entry)) at (timeFound r) (timeMore r) ⌝ }
 {
-    let mark = parser::literal(s, at, 84);
-    match mark {
-        Mark::Got { next } => duration_base_time(s, next),
-        Mark::Wrong => duration_base_time(s, at),
-        Mark::Cut => duration_base_time(s, at),
-    }
+    let from = parser::past(s, at, 84);
+    duration_base_time(s, from, time_item(s, at, item, from))
 }
 
 // The record of the parts; an absent one is 0.
@@ -177,15 +195,224 @@ fn all_parts(at: usize, y: Part, mo: Part, w: Part, d: Part, time: TimeFound) ->
     }
 }
 
+// [Y][M][W][D][[T][H][M][S]], with runs of any length
+fn long_parts(s: &[u8], at: usize) -> DurationFound
+    ensures { λ r. ⌜ Says (map durationOf (verify somePart partsRule)) (now (s .entry)) at (durationFound r) (durationMore r) ⌝ }
+{
+    let y = parts::duration_part(s, at, 89, parts::duration_item(s, at));
+    let year = y.part;
+    let after_year = y.item;
+    let mo = parts::duration_part(s, year.next, 77, after_year);
+    let month = mo.part;
+    let after_month = mo.item;
+    let w = parts::duration_part(s, month.next, 87, after_month);
+    let week = w.part;
+    let after_week = w.item;
+    let d = parts::duration_part(s, week.next, 68, after_week);
+    let day = d.part;
+    let after_day = d.item;
+    all_parts(
+        at,
+        year,
+        month,
+        week,
+        day,
+        duration_time(s, day.next, after_day),
+    )
+}
+
+// What a look at a place tells of the part there is a number: the byte behind one that may be a digit, where it is none itself; 256 more
+// than the byte behind two digits; LONG where three digits stand; NONE where no part does.
+const LONG: u32 = 512;
+
+const NONE: u32 = 513;
+
+// A part that was tried by a look, and the look at the place after it.
+struct Looked {
+    part: Part,
+    look: u32,
+}
+
+// The look where the second byte may be a digit.
+fn later_look(s: &[u8], at: usize) -> u32
+    requires { ⌜ (at + 2 ≤ length (now s)) × (getD (now s) (at + 1) 0 ≤ 57) ⌝ }
+    ensures { λ r. ⌜ Looks (now (s .entry)) at r ⌝ }
+{
+    let first = s[at];
+    if first < 48 {
+        return NONE;
+    }
+    if 57 < first {
+        return NONE;
+    }
+    let second = s[at + 1];
+    if second < 48 {
+        return second as u32;
+    }
+    if s.len() - 2 <= at {
+        return NONE;
+    }
+    let third = s[at + 2];
+    if 57 < third {
+        return third as u32 + 256;
+    }
+    if third < 48 {
+        return third as u32 + 256;
+    }
+    LONG
+}
+
+fn look_at(s: &[u8], at: usize) -> u32
+    requires { ⌜ 2 ≤ length (now s) ⌝ }
+    ensures { λ r. ⌜ Looks (now (s .entry)) at r ⌝ }
+{
+    if s.len() - 2 < at {
+        return NONE;
+    }
+    let second = s[at + 1];
+    if 57 < second {
+        return second as u32;
+    }
+    later_look(s, at)
+}
+
+// The same of any input.
+fn first_look(s: &[u8], at: usize) -> u32
+    ensures { λ r. ⌜ Looks (now (s .entry)) at r ⌝ }
+{
+    if s.len() < 2 {
+        return NONE;
+    }
+    look_at(s, at)
+}
+
+fn not_there(at: usize, look: u32) -> Looked
+    ensures { λ r. ⌜ (r .part ≡ absentPart at) × (r .look ≡ look) ⌝ }
+{
+    Looked {
+        part: Part { value: 0, next: at },
+        look,
+    }
+}
+
+// The part of a letter, by the look at its place.
+fn short_part(s: &[u8], at: usize, letter: u32, look: u32) -> Looked
+    requires { ⌜ (Looks (now s) at look) × (letter < 256) ⌝ }
+    ensures { λ r. ⌜ Short (now (s .entry)) at letter look r ⌝ }
+{
+    if look == letter {
+        let digit = std::num::wrapping_sub_u64(s[at] as u64, 48);
+        if digit <= 9 {
+            let next = at + 2;
+            return Looked {
+                part: Part { value: digit, next },
+                look: look_at(s, next),
+            };
+        }
+        return not_there(at, look);
+    }
+    if look == letter + 256 {
+        let value = (s[at] as u64) * 10 + (s[at + 1] as u64) - 528;
+        let next = at + 3;
+        return Looked {
+            part: Part { value, next },
+            look: look_at(s, next),
+        };
+    }
+    not_there(at, look)
+}
+
+// Where a time starts, behind its `T` if there is one, and the look there.
+struct Start {
+    next: usize,
+    look: u32,
+}
+
+fn time_start(s: &[u8], at: usize, look: u32) -> Start
+    requires { ⌜ Looks (now s) at look ⌝ }
+    ensures { λ r. ⌜ Starts (now (s .entry)) at look r ⌝ }
+{
+    if s.len() <= at {
+        return Start { next: at, look };
+    }
+    if s[at] == 84 {
+        let next = at + 1;
+        return Start {
+            next,
+            look: first_look(s, next),
+        };
+    }
+    Start { next: at, look }
+}
+
+// Whether the input ended where a part could still be written, by the look there.
+fn is_open(s: &[u8], at: usize, look: u32) -> bool
+    requires { ⌜ (Looks (now s) at look) × (look ≡ longRun → ⊥) ⌝ }
+    ensures { λ r. ⌜ r ≡ isCut (itemAt (now (s .entry)) at) ⌝ }
+{
+    if look != NONE {
+        return false;
+    }
+    if s.len() <= at {
+        return true;
+    }
+    let first = s[at];
+    if first < 48 {
+        return false;
+    }
+    if 57 < first { false } else { true }
+}
+
+// What Y, M, W and D make with the time behind them, by the look there.
+fn with_time(s: &[u8], at: usize, y: Part, mo: Part, w: Part, d: Part, look: u32) -> DurationFound
+    requires { ⌜ (Looks (now s) (d .next) look) × ((look ≡ longRun → ⊥) → DateParts (now s) at y mo w d) ⌝ }
+    ensures { λ r. ⌜ Says (map durationOf (verify somePart partsRule)) (now (s .entry)) at (durationFound r) (durationMore r) ⌝ }
+{
+    let start = time_start(s, d.next, look);
+    let from = start.next;
+    if start.look == NONE {
+        return date_parts(at, y, mo, w, d, is_open(s, from, NONE));
+    }
+    let h = short_part(s, from, 72, start.look);
+    let hour = h.part;
+    let m = short_part(s, hour.next, 77, h.look);
+    let minute = m.part;
+    let before = minute.next;
+    let x = short_part(s, before, 83, m.look);
+    let second = x.part;
+    let next = second.next;
+    if before < next {
+        let value = DurationTimeParts {
+            hours: hour.value,
+            minutes: minute.value,
+            seconds: second.value,
+        };
+        return DurationFound::Got {
+            value: record_of(y, mo, w, d, value),
+            next,
+            more: false,
+        };
+    }
+    if m.look == LONG {
+        return long_parts(s, at);
+    }
+    let time = some_time(from, hour, minute, is_open(s, before, m.look));
+    all_parts(at, y, mo, w, d, time)
+}
+
 // [Y][M][W][D][[T][H][M][S]]
 fn duration_parts(s: &[u8], at: usize) -> DurationFound
     ensures { λ r. ⌜ Says (map durationOf (verify somePart partsRule)) (now (s .entry)) at (durationFound r) (durationMore r) ⌝ }
 {
-    let y = parts::duration_part_year(s, at);
-    let mo = parts::duration_part_month(s, y.next);
-    let w = parts::duration_part_week(s, mo.next);
-    let d = parts::duration_part_day(s, w.next);
-    all_parts(at, y, mo, w, d, duration_time(s, d.next))
+    let y = short_part(s, at, 89, first_look(s, at));
+    let year = y.part;
+    let mo = short_part(s, year.next, 77, y.look);
+    let month = mo.part;
+    let w = short_part(s, month.next, 87, mo.look);
+    let week = w.part;
+    let d = short_part(s, week.next, 68, w.look);
+    let day = d.part;
+    with_time(s, at, year, month, week, day, d.look)
 }
 
 // P[Y][M][W][D][[T][H][M][S]]

@@ -8,7 +8,7 @@ use native.Mathlib.Omega.{arith}
 use native.Mathlib.Numerals.{sub-one}
 use lib.ListN.{length, getD}
 use lib.Dec.{ltb, leb}
-use borrow.Author.Tests.{leb-true, leb-false, lt-ltb, le-leb, lt-leb}
+use borrow.Author.Tests.{ltb-true, ltb-false, leb-true, leb-false, lt-ltb, le-leb, lt-leb}
 use Rattle.parser.specs.Reading.{no, pick, and}
 use Rattle.parser.specs.Digits.{isDigit, digitsFrom, digitsMore, lowest, highest, reach}
 
@@ -101,6 +101,14 @@ below-digits s at h a = record { inside = lt-ltb at (length s) h; is = rw (lt-le
 
 pub above-digits : (s : List ℕ) (at : ℕ) → at < length s → 57 < getD s at 0 → OtherAt s at
 above-digits s at h a = record { inside = lt-ltb at (length s) h; is = rw (le-leb 48 (getD s at 0) (omega arith), lt-leb (getD s at 0) 57 a) }
+
+pub other-at : (s : List ℕ) (at : ℕ) → at < length s → (48 ≤ getD s at 0 → getD s at 0 ≤ 57 → ⊥) → OtherAt s at
+other-at s at h n = go (ltb (getD s at 0) 48) (ltb 57 (getD s at 0)) refl refl
+  where
+    go : (t u : Bool) → ltb (getD s at 0) 48 ≡ t → ltb 57 (getD s at 0) ≡ u → OtherAt s at
+    go true u e f = below-digits s at h (ltb-true (getD s at 0) 48 e)
+    go false true e f = above-digits s at h (ltb-true 57 (getD s at 0) f)
+    go false false e f = absurd (n (ltb-false (getD s at 0) 48 e) (ltb-false 57 (getD s at 0) f))
 
 -- the input has ended
 pub digitsFrom-end : (lo hi n v : ℕ) (s : List ℕ) (at : ℕ) → 0 < n → ltb at (length s) ≡ false → digitsFrom lo hi n v s at ≡ no

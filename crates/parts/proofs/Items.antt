@@ -6,15 +6,15 @@ use mathlib.Core.Path.{_≡_, refl, sym, ap, _∙_}
 use native.Mathlib.Omega.{arith}
 use lib.ListN.{length, getD}
 use lib.Dec.{ltb, leb, eqb}
-use borrow.Author.Tests.{ltb-true, ltb-false, leb-true, lt-ltb, le-ltb, le-leb, eqb-true, eq-eqb, ne-eqb, not-false, not-true}
+use borrow.Author.Tests.{ltb-true, ltb-false, leb-true, lt-ltb, le-ltb, le-leb, eqb-true, eq-eqb, not-false, not-true}
 use Rattle.parser.specs.Reading.{Found, no, got, stop, lit, pick, and, Says}
 use Rattle.parser.specs.Digits.{isDigit, number, numberFrom, runAt, ofRun, limit, runAs, run}
-use Rattle.parser.proofs.Fields.{and-first, and-true, and-second, and-right, DigitAt, OtherAt, above-digits}
+use Rattle.parser.proofs.Fields.{and-first, and-true, and-second, and-right, DigitAt, OtherAt}
 use Rattle.parser.proofs.Runs.{run-step, run-other, run-end}
 use Rattle.parser.proofs.Places.{no≢got, got-place, stop≢got}
-use Rattle.looks.specs.Digits.{twoNumber, twoDigits}
-use Rattle.looks.proofs.Two.{is-digit, two-is, two-some}
-use Rattle.parts.specs.Items.{itemOf, itemAt, partOf, absentPart, partAt}
+use Rattle.parts.specs.Items.{itemOf, itemAt, partOf, absentPart, partBy, partAt, Tries}
+use Rattle.parts.specs.declared.Item.{Item}
+use Rattle.parts.specs.declared.Tried.{Tried}
 use Rattle.parts.specs.declared.Item.the-variants as item
 
 -- ---- a run that has a value ends inside the input, or open at its end
@@ -102,59 +102,41 @@ no-letter c s at d h = go (ltb at (length s)) (eqb (getD s at 0) c) refl refl
     go true false i e = rw (i, e)
     go false u i e = rw i
 
--- no part has room where a byte is left, or none
-pub short-part : (s : List ℕ) (at c : ℕ) → length s ≤ at + 1 → partAt s at c ≡ absentPart at
-short-part s at c h = go (ltb at (length s)) (isDigit (getD s at 0)) refl refl
-  where
-    go : (t u : Bool) → ltb at (length s) ≡ t → isDigit (getD s at 0) ≡ u → partAt s at c ≡ absentPart at
-    go true true i d = rw (last-digit-item s at (record { inside = i; is = d }) h)
-    go true false i d = rw (other-item s at (record { inside = i; is = d }))
-    go false u i d = rw (end-item s at (ltb-false at (length s) i))
-
 -- two digits
-module _ (s : List ℕ) (at : ℕ) (d : DigitAt s at) (e : DigitAt s (at + 1)) (o : OtherAt s (at + 2)) where
-  pub two-digit-item : itemAt s at ≡ item.Number (twoNumber (getD s at 0) (getD s (at + 1) 0)) (getD s (at + 2) 0) (at + 3)
+module _ (s : List ℕ) (at : ℕ) (d : DigitAt s at) (e : DigitAt s (at + 1)) where
+  abbrev value : ℕ
+  value = (getD s at 0 - 48) * 10 + (getD s (at + 1) 0 - 48)
+
+  value-is : (0 * 10 + (getD s at 0 - 48)) * 10 + (getD s (at + 1) 0 - 48) ≡ value
+  value-is = omega arith
+
+  value-small : leb value limit ≡ true
+  value-small = le-leb value limit (omega (arith, leb-true (getD s at 0) 57 (and-second (leb 48 (getD s at 0)) (d .is)), leb-true (getD s (at + 1) 0) 57 (and-second (leb 48 (getD s (at + 1) 0)) (e .is))))
+
+  p : at + 1 + 1 ≡ at + 2
+  p = omega arith
+
+  pub two-digit-item : OtherAt s (at + 2) → itemAt s at ≡ item.Number value (getD s (at + 2) 0) (at + 3)
   unfolding itemAt runAs numberFrom
-  two-digit-item =
-      let a = is-digit (getD s at 0) (d .is) in
-      let b = is-digit (getD s (at + 1) 0) (e .is) in
-      let p : at + 1 + 1 ≡ at + 2 = omega arith in
+  two-digit-item o =
       let q : at + 2 + 1 ≡ at + 3 = omega arith in
-      let n : (0 * 10 + (getD s at 0 - 48)) * 10 + (getD s (at + 1) 0 - 48) ≡ twoNumber (getD s at 0) (getD s (at + 1) 0) = omega arith in
-      let small = le-leb (twoNumber (getD s at 0) (getD s (at + 1) 0)) limit (omega (arith, a .greatest, b .greatest)) in
-      simp (run-step s at d, run-step s (at + 1) e, p, run-other s (at + 2) o, n, small, lt-ltb (at + 2) (length s) (ltb-true (at + 2) (length s) (o .inside)), q)
+      simp (run-step s at d, run-step s (at + 1) e, p, run-other s (at + 2) o, value-is, value-small, lt-ltb (at + 2) (length s) (ltb-true (at + 2) (length s) (o .inside)), q)
 
--- ---- a part by its first three bytes, where its letter is no digit
+  pub last-two-item : length s ≤ at + 2 → itemAt s at ≡ item.Cut
+  unfolding itemAt runAs numberFrom
+  last-two-item h = simp (run-step s at d, run-step s (at + 1) e, p, run-end s (at + 2) h, value-is, value-small, le-ltb (at + 2) (length s) h)
 
-module _ (s : List ℕ) (at c : ℕ) (l : at + 3 ≤ length s) (k : 57 < c) where
-  abbrev first : ℕ
-  first = getD s at 0
+-- ---- a part that is tried, by what stands at its place
 
-  abbrev second : ℕ
-  second = getD s (at + 1) 0
+module _ (s : List ℕ) (at c : ℕ) (i : Item) (r : Tried) where
+  pub tries-there : (v b n : ℕ) → i ≡ item.Number v b n → b ≡ c → r .part ≡ partOf v n → r .item ≡ itemAt s n → Tries s at c i r
+  tries-there v b n e l p k = record {
+    part = rw (e, eq-eqb b c l) p;
+    behind = λ _. rw p k;
+  }
 
-  -- two digits and the letter
-  pub two-digits-there : getD s (at + 2) 0 ≡ c → eqb (twoDigits first second 0 99) 255 ≡ false → partAt s at c ≡ partOf (twoDigits first second 0 99) (at + 3)
-  two-digits-there b e =
-      let t = two-is first second 0 99 e in
-      let d : DigitAt s at = record { inside = lt-ltb at (length s) (omega (arith, l)); is = t .first } in
-      let f : DigitAt s (at + 1) = record { inside = lt-ltb (at + 1) (length s) (omega (arith, l)); is = t .second } in
-      let o = above-digits s (at + 2) (omega (arith, l)) (omega (arith, b, k)) in
-      simp (two-some first second 0 99 t, two-digit-item s at d f o, eq-eqb (getD s (at + 2) 0) c b)
+  pub tries-absent : partBy i at c ≡ absentPart at → (r .part ≡ absentPart at) × (r .item ≡ i) → Tries s at c i r
+  tries-absent e (p, k) = record { part = p ∙ sym e; behind = λ h. rw p (k ∙ h) }
 
-  -- no letter in the second place, and another in the third
-  pub third-tells : second ≤ 57 → 57 < getD s (at + 2) 0 → eqb (getD s (at + 2) 0) c ≡ false → partAt s at c ≡ absentPart at
-  third-tells h g n = go (isDigit first) (isDigit second) refl refl
-    where
-      other : eqb second c ≡ false
-      other = ne-eqb second c (λ z. omega (arith, z, h, k))
-
-      go : (t u : Bool) → isDigit first ≡ t → isDigit second ≡ u → partAt s at c ≡ absentPart at
-      go true true d e =
-          let x : DigitAt s at = record { inside = lt-ltb at (length s) (omega (arith, l)); is = d } in
-          let y : DigitAt s (at + 1) = record { inside = lt-ltb (at + 1) (length s) (omega (arith, l)); is = e } in
-          simp (two-digit-item s at x y (above-digits s (at + 2) (omega (arith, l)) g), n)
-      go true false d e =
-          let x : DigitAt s at = record { inside = lt-ltb at (length s) (omega (arith, l)); is = d } in
-          simp (digit-item s at x (record { inside = lt-ltb (at + 1) (length s) (omega (arith, l)); is = e }), other)
-      go false u d e = rw (other-item s at (record { inside = lt-ltb at (length s) (omega (arith, l)); is = d }))
+  pub tried-part : Tries s at c i r → i ≡ itemAt s at → r .part ≡ partAt s at c
+  tried-part t e = rw e at (t .part)

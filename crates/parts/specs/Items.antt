@@ -3,6 +3,7 @@ use Prim.Native.Nat.{ℕ, _+_}
 use mathlib.Core.List.{List}
 use mathlib.Core.Bool.{Bool, true, false}
 use mathlib.Core.Option.{Option, some, none}
+use mathlib.Core.Path.{_≡_}
 use lib.ListN.{getD}
 use lib.Dec.{eqb}
 use Rattle.parser.specs.Reading.{Found, no, got, stop, pick}
@@ -11,6 +12,7 @@ use Rattle.parser.specs.Fields.{orZero}
 use Rattle.parts.specs.declared.Item.{Item}
 use Rattle.parts.specs.declared.Item.the-variants as item
 use Rattle.parts.specs.declared.Part.{Part}
+use Rattle.parts.specs.declared.Tried.{Tried}
 
 -- what a run makes, by whether the end of the input could still add to it
 abbrev pub itemOf : List ℕ → Found ℕ → Bool → Item
@@ -43,5 +45,14 @@ partOf v n = record { value = v; next = n }
 abbrev pub absentPart : ℕ → Part
 absentPart at = partOf 0 at
 
+-- the part of a letter, by what stands at its place
+abbrev pub partBy : Item → ℕ → ℕ → Part
+partBy i at c = partOf (orZero (here c i)) (past c at i)
+
 abbrev pub partAt : List ℕ → ℕ → ℕ → Part
-partAt s at c = partOf (orZero (here c (itemAt s at))) (past c at (itemAt s at))
+partAt s at c = partBy (itemAt s at) at c
+
+-- a part that was tried is the one of its letter, and what stands behind it is known where it was known before it
+pub record Tries (s : List ℕ) (at c : ℕ) (i : Item) (r : Tried) : Type 0 where
+  pub part : r .part ≡ partBy i at c
+  pub behind : i ≡ itemAt s at → r .item ≡ itemAt s (r .part .next)

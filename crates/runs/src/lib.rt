@@ -20,7 +20,7 @@ pub enum Run {
 // The largest number that a digit run may have is 18446744073709551615: all but its last digit, and that one.
 const FRONT: u64 = 1844674407370955161;
 
-const LAST: u8 = 5;
+const LAST: u64 = 5;
 
 // What a run from `at` to `next` is. `more`: the input ends there.
 fn found_run(at: usize, next: usize, value: u64, more: bool) -> Run
@@ -33,7 +33,7 @@ fn found_run(at: usize, next: usize, value: u64, more: bool) -> Run
 }
 
 // Whether one digit more makes a number larger than any that a run may have.
-fn is_past(value: u64, digit: u8) -> bool
+fn is_past(value: u64, digit: u64) -> bool
     requires { ⌜ digit ≤ 9 ⌝ }
     ensures { λ r. ⌜ r ≡ ltb limit (value * 10 + digit) ⌝ }
 {
@@ -53,17 +53,14 @@ pub fn take_digits(s: &[u8], at: usize) -> Run
     let mut value: u64 = 0;
     let mut next = at;
     while next < s.len() {
-        let b = s[next];
-        if b < 48 {
+        let digit = std::num::wrapping_sub_u64(s[next] as u64, 48);
+        if 9 < digit {
             return found_run(at, next, value, false);
         }
-        if 57 < b {
-            return found_run(at, next, value, false);
-        }
-        if is_past(value, b - 48) {
+        if is_past(value, digit) {
             return Run::TooBig;
         }
-        value = value * 10 + ((b - 48) as u64);
+        value = value * 10 + digit;
         next = next + 1;
     }
     found_run(at, next, value, true)

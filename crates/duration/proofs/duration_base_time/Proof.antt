@@ -1,42 +1,51 @@
--- Each part is read from the place that the one before it left, as the rule does.
+-- Each part is tried at the place that the one before it left, and what stands there is known.
+use Rattle.parts.proofs.Items.{tried-part}
 use Rattle.duration.proofs.Reading.{with-seconds, without-seconds}
 use borrow.Author.Needs.{needs}
 use Rattle.duration.proofs.duration_base_time.Statement.{statement}
 use Rattle.duration.proofs.duration_base_time.Tie as tie
 
-duration-part-hour-requires : tie.Need-duration-part-hour-requires
-duration-part-hour-requires c κs = search needs
+duration-part-requires : tie.Need-duration-part-requires
+duration-part-requires c κs = search needs
 
-duration-part-minute-requires : tie.Need-duration-part-minute-requires
-duration-part-minute-requires c κs = search needs
+duration-part-requires-2 : tie.Need-duration-part-requires-2
+duration-part-requires-2 c κs = search needs
 
-duration-part-second-requires : tie.Need-duration-part-second-requires
-duration-part-second-requires c κs = search needs
+duration-part-requires-3 : tie.Need-duration-part-requires-3
+duration-part-requires-3 c κs = search needs
 
 returns : tie.Need-returns
 returns c =
-    let a = c .before .before .before .before .before .args in
-    with-seconds (a .s .now) (a .at) _ _ _ (c .before .before .before .duration-part-hour .ensures) (c .before .before .duration-part-minute .ensures) (c .before .duration-part-second .ensures) (c .if1 .taken)
-
-duration-item-requires : tie.Need-duration-item-requires
-duration-item-requires c κs = search needs
+    let x = c .before .before .before .before .before .before .before .before in
+    let s = x .args .s .now in
+    let h = c .before .before .before .before .before .before .duration-part .ensures in
+    let m = c .before .before .before .before .duration-part2 .ensures in
+    let n = c .before .before .duration-part3 .ensures in
+    let behind-h = h .behind (x .pre) in
+    let behind-m = m .behind behind-h in
+    with-seconds s (x .args .at) _ _ _ (tried-part _ _ _ _ _ h (x .pre)) (tried-part _ _ _ _ _ m behind-h) (tried-part _ _ _ _ _ n behind-m) (c .if1 .taken)
 
 time-parts-requires : tie.Need-time-parts-requires
 time-parts-requires c κs = search needs
 
 returns-2 : tie.Need-returns-2
 returns-2 c =
-    let a = c .before .before .before .before .before .before .before .args in
-    without-seconds (a .s .now) (a .at) _ _ _ (c .before .before .before .before .before .duration-part-hour .ensures) (c .before .before .before .before .duration-part-minute .ensures) (c .before .before .before .duration-part-second .ensures) (c .before .duration-item .result) (c .time-parts .result) (c .before .before .if1 .left) (c .before .duration-item .ensures) (c .time-parts .ensures .0) (c .time-parts .ensures .1)
+    let x = c .before .before .before .before .before .before .before .before .before in
+    let s = x .args .s .now in
+    let h = c .before .before .before .before .before .before .before .duration-part .ensures in
+    let m = c .before .before .before .before .before .duration-part2 .ensures in
+    let n = c .before .before .before .duration-part3 .ensures in
+    let behind-h = h .behind (x .pre) in
+    let behind-m = m .behind behind-h in
+    rw (c .time-parts .ensures .0, c .time-parts .ensures .1, behind-m) (without-seconds s (x .args .at) _ _ _ (tried-part _ _ _ _ _ h (x .pre)) (tried-part _ _ _ _ _ m behind-h) (tried-part _ _ _ _ _ n behind-m) (c .before .if1 .left))
 
 pub duration-base-time-spec : {M : Type 1} → statement M
 duration-base-time-spec =
     tie.close
     (tie.spec
-    duration-part-hour-requires
-    duration-part-minute-requires
-    duration-part-second-requires
+    duration-part-requires
+    duration-part-requires-2
+    duration-part-requires-3
     returns
-    duration-item-requires
     time-parts-requires
     returns-2)
