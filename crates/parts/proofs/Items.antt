@@ -8,11 +8,11 @@ use lib.ListN.{length, getD}
 use lib.Dec.{ltb, leb, eqb}
 use borrow.Author.Tests.{ltb-true, ltb-false, leb-true, lt-ltb, le-ltb, le-leb, eqb-true, eq-eqb, not-false, not-true}
 use Rattle.parser.specs.Reading.{Found, no, got, stop, lit, pick, and, Says}
-use Rattle.parser.specs.Digits.{isDigit, number, numberFrom, runAt, ofRun, limit, runAs, run}
+use Rattle.parser.specs.Digits.{isDigit, number, numberFrom, runAt, ofRun, atTheEnd, atMost, limit, runAs, run}
 use Rattle.parser.proofs.Fields.{and-first, and-true, and-second, and-right, DigitAt, OtherAt}
 use Rattle.parser.proofs.Runs.{run-step, run-other, run-end}
-use Rattle.parser.proofs.Places.{no≢got, got-place, stop≢got}
-use Rattle.parts.specs.Items.{itemOf, itemAt, partOf, absentPart, partBy, partAt, Tries}
+use Rattle.parser.proofs.Places.{stop≢got, RunFound, run-found}
+use Rattle.parts.specs.Items.{itemOf, itemAt, past, partOf, absentPart, partBy, partAt, itemBehind, Tries}
 use Rattle.parts.specs.declared.Item.{Item}
 use Rattle.parts.specs.declared.Tried.{Tried}
 use Rattle.parts.specs.declared.Item.the-variants as item
@@ -20,26 +20,16 @@ use Rattle.parts.specs.declared.Item.the-variants as item
 -- ---- a run that has a value ends inside the input, or open at its end
 
 module _ (s : List ℕ) (at v n : ℕ) (e : run .reads s at ≡ got v n) where
+  found : RunFound number (atMost limit) s at v n
+  found = run-found number (atMost limit) 2 s at v n e
+
   pub run-inside : run .more s at ≡ false → n < length s
   unfolding runAs
-  run-inside m = go (runAt s at) (leb (number (runAt s at)) limit) e m
-    where
-      go : (d : List ℕ) (t : Bool) → ofRun d no (pick t (got (number d) (at + length d)) (stop 2)) ≡ got v n → and (not (ltb (at + length d) (length s))) t ≡ false → n < length s
-      go [] t e m = absurd (no≢got e)
-      go (b ∷ d) true e m = omega (arith, got-place e, ltb-true (at + length (b ∷ d)) (length s) (not-false _ (sym (and-true (not (ltb (at + length (b ∷ d)) (length s)))) ∙ m)))
-      go (b ∷ d) false e m = absurd (stop≢got e)
+  run-inside m = omega (arith, found .place, ltb-true (at + length (runAt s at)) (length s) (not-false _ (sym (and-true (atTheEnd s at)) ∙ rw (found .may-be) at m)))
 
   pub run-to-end : run .more s at ≡ true → length s ≤ n
   unfolding runAs
-  run-to-end m = go (runAt s at) (leb (number (runAt s at)) limit) e m
-    where
-      go : (d : List ℕ) (t : Bool) → ofRun d no (pick t (got (number d) (at + length d)) (stop 2)) ≡ got v n → and (not (ltb (at + length d) (length s))) t ≡ true → length s ≤ n
-      go [] t e m = absurd (no≢got e)
-      go (b ∷ d) t e m = place t e (ltb-false (at + length (b ∷ d)) (length s) (not-true _ (and-first _ t m)))
-        where
-          place : (t : Bool) → pick t (got (number (b ∷ d)) (at + length (b ∷ d))) (stop 2) ≡ got v n → length s ≤ at + length (b ∷ d) → length s ≤ n
-          place true e h = omega (arith, got-place e)
-          place false e h = absurd (stop≢got e)
+  run-to-end m = omega (arith, found .place, ltb-false (at + length (runAt s at)) (length s) (not-true _ (and-first (atTheEnd s at) _ m)))
 
 -- a run stops with 2 alone
 pub run-stop : (s : List ℕ) (at r : ℕ) → run .reads s at ≡ stop r → (r ≡ 2) × (run .more s at ≡ false)
@@ -50,16 +40,6 @@ run-stop s at r e = go (runAt s at) (leb (number (runAt s at)) limit) e
     go [] t e = absurd (let z : _≡_ {A = ℕ} 0 1 = cc in omega arith)
     go (b ∷ d) true e = absurd (stop≢got (sym e))
     go (b ∷ d) false e = (cc, and-right (not (ltb (at + length (b ∷ d)) (length s))) refl)
-
--- a run never leads back
-pub run-forward : (s : List ℕ) (at v n : ℕ) → run .reads s at ≡ got v n → at ≤ n
-unfolding runAs
-run-forward s at v n e = go (runAt s at) (leb (number (runAt s at)) limit) e
-  where
-    go : (d : List ℕ) (t : Bool) → ofRun d no (pick t (got (number d) (at + length d)) (stop 2)) ≡ got v n → at ≤ n
-    go [] t e = absurd (no≢got e)
-    go (b ∷ d) true e = omega (arith, got-place e)
-    go (b ∷ d) false e = absurd (stop≢got e)
 
 -- what the code makes of a run is what stands there
 pub item-is : (s : List ℕ) (at : ℕ) (f : Found ℕ) (m : Bool) → Says run s at f m → itemAt s at ≡ itemOf s f m
@@ -130,13 +110,24 @@ module _ (s : List ℕ) (at : ℕ) (d : DigitAt s at) (e : DigitAt s (at + 1)) w
 
 module _ (s : List ℕ) (at c : ℕ) (i : Item) (r : Tried) where
   pub tries-there : (v b n : ℕ) → i ≡ item.Number v b n → b ≡ c → r .part ≡ partOf v n → r .item ≡ itemAt s n → Tries s at c i r
-  tries-there v b n e l p k = record {
-    part = rw (e, eq-eqb b c l) p;
-    behind = λ _. rw p k;
-  }
+  tries-there v b n e l p k = record { part = rw (e, eq-eqb b c l) p; item = rw (e, eq-eqb b c l) k }
 
-  pub tries-absent : partBy i at c ≡ absentPart at → (r .part ≡ absentPart at) × (r .item ≡ i) → Tries s at c i r
-  tries-absent e (p, k) = record { part = p ∙ sym e; behind = λ h. rw p (k ∙ h) }
+  pub tries-absent : partBy i at c ≡ absentPart at → itemBehind s c i ≡ i → (r .part ≡ absentPart at) × (r .item ≡ i) → Tries s at c i r
+  tries-absent e f (p, k) = record { part = p ∙ sym e; item = k ∙ sym f }
 
   pub tried-part : Tries s at c i r → i ≡ itemAt s at → r .part ≡ partAt s at c
   tried-part t e = rw e at (t .part)
+
+  -- what stands at the place behind it
+  pub tried-item : Tries s at c i r → i ≡ itemAt s at → r .item ≡ itemAt s (r .part .next)
+  tried-item t e = rw (t .part) (t .item ∙ stands i e)
+    where
+      stands : (j : Item) → j ≡ itemAt s at → itemBehind s c j ≡ itemAt s (past c at j)
+      stands (item.Number v b n) e = letter (eqb b c)
+        where
+          letter : (u : Bool) → pick u (itemAt s n) (item.Number v b n) ≡ itemAt s (pick u n at)
+          letter true = refl
+          letter false = e
+      stands item.TooBig e = e
+      stands item.Wrong e = e
+      stands item.Cut e = e

@@ -52,7 +52,14 @@ partBy i at c = partOf (orZero (here c i)) (past c at i)
 abbrev pub partAt : List ℕ → ℕ → ℕ → Part
 partAt s at c = partBy (itemAt s at) at c
 
--- a part that was tried is the one of its letter, and what stands behind it is known where it was known before it
+-- what stands behind it; where it is not there, what stood before it
+abbrev pub itemBehind : List ℕ → ℕ → Item → Item
+itemBehind s c (item.Number v b n) = pick (eqb b c) (itemAt s n) (item.Number v b n)
+itemBehind s c item.TooBig = item.TooBig
+itemBehind s c item.Wrong = item.Wrong
+itemBehind s c item.Cut = item.Cut
+
+-- a part that was tried, by the item that was handed over
 pub record Tries (s : List ℕ) (at c : ℕ) (i : Item) (r : Tried) : Type 0 where
   pub part : r .part ≡ partBy i at c
-  pub behind : i ≡ itemAt s at → r .item ≡ itemAt s (r .part .next)
+  pub item : r .item ≡ itemBehind s c i

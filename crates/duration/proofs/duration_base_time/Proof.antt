@@ -1,5 +1,5 @@
 -- Each part is tried at the place that the one before it left, and what stands there is known.
-use Rattle.parts.proofs.Items.{tried-part}
+use Rattle.parts.proofs.Items.{tried-part, tried-item}
 use Rattle.duration.proofs.Reading.{with-seconds, without-seconds}
 use borrow.Author.Needs.{needs}
 use Rattle.duration.proofs.duration_base_time.Statement.{statement}
@@ -21,8 +21,8 @@ returns c =
     let h = c .before .before .before .before .before .before .duration-part .ensures in
     let m = c .before .before .before .before .duration-part2 .ensures in
     let n = c .before .before .duration-part3 .ensures in
-    let behind-h = h .behind (x .pre) in
-    let behind-m = m .behind behind-h in
+    let behind-h = tried-item _ _ _ _ _ h (x .pre) in
+    let behind-m = tried-item _ _ _ _ _ m behind-h in
     with-seconds s (x .args .at) _ _ _ (tried-part _ _ _ _ _ h (x .pre)) (tried-part _ _ _ _ _ m behind-h) (tried-part _ _ _ _ _ n behind-m) (c .if1 .taken)
 
 time-parts-requires : tie.Need-time-parts-requires
@@ -35,8 +35,8 @@ returns-2 c =
     let h = c .before .before .before .before .before .before .before .duration-part .ensures in
     let m = c .before .before .before .before .before .duration-part2 .ensures in
     let n = c .before .before .before .duration-part3 .ensures in
-    let behind-h = h .behind (x .pre) in
-    let behind-m = m .behind behind-h in
+    let behind-h = tried-item _ _ _ _ _ h (x .pre) in
+    let behind-m = tried-item _ _ _ _ _ m behind-h in
     rw (c .time-parts .ensures .0, c .time-parts .ensures .1, behind-m) (without-seconds s (x .args .at) _ _ _ (tried-part _ _ _ _ _ h (x .pre)) (tried-part _ _ _ _ _ m behind-h) (tried-part _ _ _ _ _ n behind-m) (c .before .if1 .left))
 
 pub duration-base-time-spec : {M : Type 1} → statement M

@@ -1,5 +1,5 @@
 -- Each part is tried at the place that the one before it left, and what stands there is known.
-use Rattle.parts.proofs.Items.{tried-part}
+use Rattle.parts.proofs.Items.{tried-part, tried-item}
 use Rattle.duration.proofs.Whole.{parts-made}
 use borrow.Author.Needs.{needs}
 use Rattle.duration.proofs.long_parts.Statement.{statement}
@@ -28,10 +28,10 @@ duration-time-requires c κs =
     let mo = c .before .before .before .before .before .duration-part2 .ensures in
     let w = c .before .before .before .duration-part3 .ensures in
     let d = c .before .duration-part4 .ensures in
-    let behind-y = y .behind i in
-    let behind-mo = mo .behind behind-y in
-    let behind-w = w .behind behind-mo in
-    d .behind behind-w
+    let behind-y = tried-item _ _ _ _ _ y i in
+    let behind-mo = tried-item _ _ _ _ _ mo behind-y in
+    let behind-w = tried-item _ _ _ _ _ w behind-mo in
+    tried-item _ _ _ _ _ d behind-w
 
 all-parts-requires : tie.Need-all-parts-requires
 all-parts-requires c κs = search needs
@@ -44,9 +44,9 @@ returns c =
     let mo = c .before .before .before .before .before .before .before .duration-part2 .ensures in
     let w = c .before .before .before .before .before .duration-part3 .ensures in
     let d = c .before .before .before .duration-part4 .ensures in
-    let behind-y = y .behind i in
-    let behind-mo = mo .behind behind-y in
-    let behind-w = w .behind behind-mo in
+    let behind-y = tried-item _ _ _ _ _ y i in
+    let behind-mo = tried-item _ _ _ _ _ mo behind-y in
+    let behind-w = tried-item _ _ _ _ _ w behind-mo in
     rw (c .all-parts .ensures .1) (parts-made s _ _ _ _ _ _ _ _ (record { years = tried-part _ _ _ _ _ y i; months = tried-part _ _ _ _ _ mo behind-y; weeks = tried-part _ _ _ _ _ w behind-mo; days = tried-part _ _ _ _ _ d behind-w }) (c .before .duration-time .ensures) (c .all-parts .ensures .0))
 
 pub long-parts-spec : {M : Type 1} → statement M
