@@ -3,7 +3,7 @@
 // `start` gives a state, `step` gives it a piece, and `answer` and `end` say what the two readers say of all that was accepted, however it was
 // cut: that is `proofs/Laws.antt`. The state never holds the text, which has no limit: it keeps at most 150 bytes that are read the same, and
 // of each the place where it stood (specs/Keeping.antt).
-ghost use Prim.Native.Nat.{_+_, _<_, _≤_, min, max};
+ghost use Prim.Native.Nat.{_+_, _<_, min, max};
 ghost use mathlib.Core.Path.{_≡_};
 ghost use lib.ListN.{length, drop};
 ghost use Rattle.parser.specs.Digits.{isDigit};

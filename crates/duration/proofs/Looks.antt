@@ -5,12 +5,12 @@ use mathlib.Core.Bool.{Bool, true, false}
 use mathlib.Core.Path.{_≡_, refl, sym, ap, _∙_}
 use native.Mathlib.Omega.{arith}
 use lib.ListN.{length, getD}
-use lib.Dec.{ltb, leb}
-use borrow.Author.Tests.{ltb-true, ltb-false, leb-true, lt-ltb, le-ltb, eq-eqb, ne-eqb}
+use lib.Dec.{ltb}
+use borrow.Author.Tests.{ltb-true, ltb-false, lt-ltb, le-ltb, eq-eqb, ne-eqb}
 use Rattle.parser.specs.Reading.{Found, lit}
 use Rattle.parser.specs.Read.{placeAfter}
 use Rattle.parser.specs.Digits.{isDigit, digit}
-use Rattle.parser.proofs.Fields.{and-first, and-second, true≢false, DigitAt, OtherAt}
+use Rattle.parser.proofs.Fields.{and-first, and-second, true≢false, digit-within, DigitAt, OtherAt}
 use Rattle.parts.specs.Items.{itemAt, partOf, absentPart, partAt}
 use Rattle.parts.specs.declared.Item.the-variants as item
 use Rattle.parts.specs.declared.Part.{Part}
@@ -33,9 +33,11 @@ module _ (s : List ℕ) (at : ℕ) where
   not-both : DigitAt s at → OtherAt s at → ⊥
   not-both d o = true≢false (sym (d .is) ∙ o .is)
 
-  -- a digit's byte lies between these
   pub within : DigitAt s at → (48 ≤ getD s at 0) × (getD s at 0 ≤ 57)
-  within d = (leb-true 48 (getD s at 0) (and-first _ _ (d .is)), leb-true (getD s at 0) 57 (and-second (leb 48 (getD s at 0)) (d .is)))
+  within d = digit-within (getD s at 0) (d .is)
+
+  other-of : at < length s → isDigit (getD s at 0) ≡ false → OtherAt s at
+  other-of h o = record { inside = lt-ltb at (length s) h; is = o }
 
 -- ---- what a look is made of
 
@@ -76,7 +78,7 @@ pub record Two (s : List ℕ) (at c : ℕ) : Type 0 where
 module _ (s : List ℕ) (at l c : ℕ) (small : c < 256) where
   pub look-one : Looks s at l → l ≡ c → One s at c
   look-one (none e k) q = absurd (omega arith)
-  look-one (one e b r o) q = record { letter = sym e ∙ q; room = r; ends = record { inside = lt-ltb (at + 1) (length s) (omega arith); is = o } }
+  look-one (one e b r o) q = record { letter = sym e ∙ q; room = r; ends = other-of s (at + 1) (omega arith) o }
   look-one (two e b r d f o) q = absurd (omega arith)
   look-one (long e d) q = absurd (omega arith)
 
@@ -88,7 +90,7 @@ module _ (s : List ℕ) (at l c : ℕ) (small : c < 256) where
     room = r;
     first = digit-of s at d;
     second = digit-of s (at + 1) f;
-    ends = record { inside = lt-ltb (at + 2) (length s) (omega arith); is = o };
+    ends = other-of s (at + 2) (omega arith) o;
   }
   look-two (long e d) q = absurd (omega arith)
 
@@ -133,14 +135,14 @@ module _ (s : List ℕ) (at l : ℕ) (short : l ≡ longRun → ⊥) where
   look-stands (one e b r o) = go (place s at)
     where
       ends : OtherAt s (at + 1)
-      ends = record { inside = lt-ltb (at + 1) (length s) (omega arith); is = o }
+      ends = other-of s (at + 1) (omega arith) o
 
       go : Place s at → Stands s at l
       go (digit-here d) = record { small = λ f. rw (digit-item s at d ends); closed = λ n. rw (digit-item s at d ends) }
       go (other-here x) = record { small = λ f. rw (other-item s at x); closed = λ n. rw (other-item s at x) }
       go (end-here h) = absurd (omega arith)
   look-stands (two e b r d f o) =
-      let i = two-digit-item s at (digit-of s at d) (digit-of s (at + 1) f) (record { inside = lt-ltb (at + 2) (length s) (omega arith); is = o }) in
+      let i = two-digit-item s at (digit-of s at d) (digit-of s (at + 1) f) (other-of s (at + 2) (omega arith) o) in
       record { small = λ f. rw i; closed = λ n. rw i }
   look-stands (long e d) = absurd (short e)
 
@@ -155,14 +157,14 @@ module _ (s : List ℕ) (at l : ℕ) (short : l ≡ longRun → ⊥) where
   look-absent c (one e b r o) n m = go (place s at)
     where
       ends : OtherAt s (at + 1)
-      ends = record { inside = lt-ltb (at + 1) (length s) (omega arith); is = o }
+      ends = other-of s (at + 1) (omega arith) o
 
       go : Place s at → partAt s at c ≡ absentPart at
       go (digit-here d) = rw (digit-item s at d ends, ne-eqb (getD s (at + 1) 0) c (λ z. not-both s at d (n (e ∙ z))))
       go (other-here x) = rw (other-item s at x)
       go (end-here h) = absurd (omega arith)
   look-absent c (two e b r d f o) n m =
-      let i = two-digit-item s at (digit-of s at d) (digit-of s (at + 1) f) (record { inside = lt-ltb (at + 2) (length s) (omega arith); is = o }) in
+      let i = two-digit-item s at (digit-of s at d) (digit-of s (at + 1) f) (other-of s (at + 2) (omega arith) o) in
       rw (i, ne-eqb (getD s (at + 2) 0) c (λ z. m (omega arith)))
   look-absent c (long e d) n m = absurd (short e)
 

@@ -1,4 +1,4 @@
--- What a look at a place tells of the part there.
+-- What a look at a place tells of the part there, in one number. (The looks of the crate `looks` are others: digits at fixed places.)
 use Prim.Native.Nat.{ℕ, _+_, _<_, _≤_}
 use mathlib.Core.List.{List}
 use mathlib.Core.Bool.{true, false}

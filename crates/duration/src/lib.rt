@@ -262,6 +262,7 @@ fn later_look(s: &[u8], at: usize) -> u32
     LONG
 }
 
+// The look at a place of an input that has two bytes or more.
 fn look_at(s: &[u8], at: usize) -> u32
     requires { ⌜ 2 ≤ length (now s) ⌝ }
     ensures { λ r. ⌜ Looks (now (s .entry)) at r ⌝ }
@@ -286,6 +287,7 @@ fn first_look(s: &[u8], at: usize) -> u32
     look_at(s, at)
 }
 
+// The part of a letter is not there.
 fn not_there(at: usize, look: u32) -> Looked
     ensures { λ r. ⌜ (r .part ≡ absentPart at) × (r .look ≡ look) ⌝ }
 {
@@ -312,7 +314,7 @@ fn short_part(s: &[u8], at: usize, letter: u32, look: u32) -> Looked
         return not_there(at, look);
     }
     if look == letter + 256 {
-        let value = (s[at] as u64) * 10 + (s[at + 1] as u64) - 528;
+        let value = (s[at] as u64) * 10 + (s[at + 1] as u64) - 528; // 528 at `00`
         let next = at + 3;
         return Looked {
             part: Part { value, next },
@@ -360,7 +362,10 @@ fn is_open(s: &[u8], at: usize, look: u32) -> bool
     if first < 48 {
         return false;
     }
-    if 57 < first { false } else { true }
+    if 57 < first {
+        return false;
+    }
+    true
 }
 
 // What Y, M, W and D make with the time behind them, by the look there.

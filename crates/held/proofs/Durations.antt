@@ -1,30 +1,19 @@
 -- Durations: each number is the one whose 64 bits its slot has, and no other is.
-use Prim.Native.Nat.{ℕ, suc, _-_, _<_, _≤_, _^_}
+use Prim.Native.Nat.{ℕ, _<_, _≤_, _^_}
 use mathlib.Core.List.{[], _∷_}
-use mathlib.Core.Bool.{Bool, true, false}
 use mathlib.Core.Path.{_≡_, refl, sym, _∙_}
 use native.Mathlib.Omega.{arith}
-use lib.Dec.{ltb}
-use lib.IntN.{ℤ, pos, negsuc}
+use lib.IntN.{ℤ}
 use mir.Syntax.{w64}
-use mir.Val.{toZ}
 use mir.Facts.{toZ-inj}
-use Rattle.parser.specs.Reading.{pick}
 use Rattle.parser.specs.Digits.{limit}
 use Rattle.slots.specs.Slots.{asSlot, durationSlots}
-use Rattle.slots.proofs.Stores.{_then_}
+use Rattle.slots.proofs.Stores.{_then_, slot-bits}
 use Rattle.duration_writer.specs.Ranges.{durationGiven}
 use Rattle.duration_writer.proofs.Within.{given-within}
 use Rattle.held.specs.Held.{Made}
 
-slot-bits : (n : ℕ) → asSlot n ≡ toZ w64 n
-slot-bits n = go (ltb n (2 ^ 63)) refl
-  where
-    go : (t : Bool) → ltb n (2 ^ 63) ≡ t → pick t (pos n) (negsuc (2 ^ 64 - suc n)) ≡ toZ w64 n
-    go true e = rw e
-    go false e = rw e
-
-pub slot-once : (a b : ℕ) → a < 2 ^ 64 → b < 2 ^ 64 → asSlot a ≡ asSlot b → a ≡ b
+slot-once : (a b : ℕ) → a < 2 ^ 64 → b < 2 ^ 64 → asSlot a ≡ asSlot b → a ≡ b
 slot-once a b ha hb e = toZ-inj {w = w64} (record { fits = ha }) (record { fits = hb }) (sym (slot-bits a) ∙ e ∙ slot-bits b)
 
 -- a number of 64 bits that its slot holds is the only one

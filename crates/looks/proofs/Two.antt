@@ -11,7 +11,7 @@ use Rattle.parser.specs.Reading.{no, got, lit, pick, and, within, Says}
 use Rattle.parser.specs.Digits.{isDigit, digitsFrom, digitsMore, reach, field}
 use Rattle.parser.specs.Fields.{precededBy}
 use Rattle.parser.specs.Read.{placeAfter}
-use Rattle.parser.proofs.Fields.{true≢false, and-first, and-second, DigitAt, OtherAt}
+use Rattle.parser.proofs.Fields.{true≢false, and-first, and-second, digit-within, DigitAt, OtherAt}
 use Rattle.parser.proofs.Leaves.{digit-is-not}
 use Rattle.parser.proofs.General.{field-eager, says-past}
 use Rattle.looks.specs.Digits.{twoNumber, twoDigits}
@@ -22,7 +22,7 @@ pub record IsDigit (b : ℕ) : Type 0 where
   pub greatest : b ≤ 57
 
 pub is-digit : (b : ℕ) → isDigit b ≡ true → IsDigit b
-is-digit b e = record { least = leb-true 48 b (and-first (leb 48 b) (leb b 57) e); greatest = leb-true b 57 (and-second (leb 48 b) e) }
+is-digit b e = let w = digit-within b e in record { least = w .0; greatest = w .1 }
 
 pub digit-is : (b : ℕ) → 48 ≤ b → b ≤ 57 → isDigit b ≡ true
 digit-is b h k = rw (le-leb 48 b h, le-leb b 57 k)

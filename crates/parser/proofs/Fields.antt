@@ -102,6 +102,9 @@ below-digits s at h a = record { inside = lt-ltb at (length s) h; is = rw (lt-le
 pub above-digits : (s : List ℕ) (at : ℕ) → at < length s → 57 < getD s at 0 → OtherAt s at
 above-digits s at h a = record { inside = lt-ltb at (length s) h; is = rw (le-leb 48 (getD s at 0) (omega arith), lt-leb (getD s at 0) 57 a) }
 
+pub digit-within : (b : ℕ) → isDigit b ≡ true → (48 ≤ b) × (b ≤ 57)
+digit-within b e = (leb-true 48 b (and-first (leb 48 b) (leb b 57) e), leb-true b 57 (and-second (leb 48 b) e))
+
 pub other-at : (s : List ℕ) (at : ℕ) → at < length s → (48 ≤ getD s at 0 → getD s at 0 ≤ 57 → ⊥) → OtherAt s at
 other-at s at h n = go (ltb (getD s at 0) 48) (ltb 57 (getD s at 0)) refl refl
   where

@@ -4,6 +4,7 @@ use mathlib.Core.List.{List, [], _∷_, _++_}
 use mathlib.Core.Bool.{Bool, true, false, not}
 use lib.ListN.{length, getD, take, drop, replicate}
 use lib.Dec.{ltb, leb}
+use Rattle.types.specs.Sums.{largest}
 use Rattle.types.specs.declared.Fraction.{Fraction}
 use Rattle.parser.specs.Reading.{Found, no, got, stop, Reader, and, pick, within}
 
@@ -84,7 +85,7 @@ runAs f may r = record {
 -- request W9, in the place of document 01's 4,294,967,295: "Digit runs in a duration now reach 18,446,744,073,709,551,615, and refusal 2
 -- starts above that"
 abbrev pub limit : ℕ
-limit = 18446744073709551615
+limit = largest
 
 abbrev pub run : Reader ℕ
 run = runAs number (atMost limit) 2

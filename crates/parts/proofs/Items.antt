@@ -6,10 +6,10 @@ use mathlib.Core.Path.{_≡_, refl, sym, ap, _∙_}
 use native.Mathlib.Omega.{arith}
 use lib.ListN.{length, getD}
 use lib.Dec.{ltb, leb, eqb}
-use borrow.Author.Tests.{ltb-true, ltb-false, leb-true, lt-ltb, le-ltb, le-leb, eqb-true, eq-eqb, not-false, not-true}
+use borrow.Author.Tests.{ltb-true, ltb-false, lt-ltb, le-ltb, le-leb, eqb-true, eq-eqb, not-false, not-true}
 use Rattle.parser.specs.Reading.{Found, no, got, stop, lit, pick, and, Says}
 use Rattle.parser.specs.Digits.{isDigit, number, numberFrom, runAt, ofRun, atTheEnd, atMost, limit, runAs, run}
-use Rattle.parser.proofs.Fields.{and-first, and-true, and-second, and-right, DigitAt, OtherAt}
+use Rattle.parser.proofs.Fields.{and-first, and-true, and-right, digit-within, DigitAt, OtherAt}
 use Rattle.parser.proofs.Runs.{run-step, run-other, run-end}
 use Rattle.parser.proofs.Places.{stop≢got, RunFound, run-found}
 use Rattle.parts.specs.Items.{itemOf, itemAt, past, partOf, absentPart, partBy, partAt, itemBehind, Tries}
@@ -59,7 +59,7 @@ other-item s at o = rw (run-other s at o, lt-ltb (at + 0) (length s) (omega (ari
 -- a single digit
 module _ (s : List ℕ) (at : ℕ) (d : DigitAt s at) where
   small : leb (0 * 10 + (getD s at 0 - 48)) limit ≡ true
-  small = le-leb (0 * 10 + (getD s at 0 - 48)) limit (omega (arith, leb-true (getD s at 0) 57 (and-second (leb 48 (getD s at 0)) (d .is))))
+  small = le-leb (0 * 10 + (getD s at 0 - 48)) limit (omega (arith, digit-within (getD s at 0) (d .is) .1))
 
   pub digit-item : OtherAt s (at + 1) → itemAt s at ≡ item.Number (getD s at 0 - 48) (getD s (at + 1) 0) (at + 1 + 1)
   unfolding itemAt runAs numberFrom
@@ -91,7 +91,7 @@ module _ (s : List ℕ) (at : ℕ) (d : DigitAt s at) (e : DigitAt s (at + 1)) w
   value-is = omega arith
 
   value-small : leb value limit ≡ true
-  value-small = le-leb value limit (omega (arith, leb-true (getD s at 0) 57 (and-second (leb 48 (getD s at 0)) (d .is)), leb-true (getD s (at + 1) 0) 57 (and-second (leb 48 (getD s (at + 1) 0)) (e .is))))
+  value-small = le-leb value limit (omega (arith, digit-within (getD s at 0) (d .is) .1, digit-within (getD s (at + 1) 0) (e .is) .1))
 
   p : at + 1 + 1 ≡ at + 2
   p = omega arith

@@ -8,8 +8,8 @@ use lib.ListN.{length, getD, drop, length-append, length-drop}
 use lib.Seq.{drop-append-le, drop-append-seam, getD-drop}
 use lib.Dec.{ltb, leb}
 use borrow.Author.Tests.{ltb-true, ltb-false, leb-true, leb-false, not-true}
-use Rattle.parser.specs.Reading.{no, got, stop, lit, seq, map, pick, and}
-use Rattle.parser.specs.Digits.{isDigit, digits, number, numberFrom, lowest, runAt, ofRun, atTheEnd, atMost, limit, runAs, run}
+use Rattle.parser.specs.Reading.{got, stop, lit, seq, map, pick, and}
+use Rattle.parser.specs.Digits.{isDigit, digits, number, numberFrom, lowest, runAt, atTheEnd, atMost, limit, runAs, run}
 use Rattle.parser.proofs.Fields.{true≢false, and-first}
 use Rattle.parser.proofs.Runs.{digits-inside, number-grows}
 use Rattle.parser.proofs.Places.{run-bounded, run-found}
@@ -70,7 +70,7 @@ module _ (z : ZeroCut) where
       go n le true e = read-before (cut zeros z) run (run-bounded number (atMost limit) 2) n le (run-reads-before (z .before) (z .starts) n (ltb-true n (length (z .before)) e))
       go n le false e = let here : n ≡ length (z .before) = omega (arith, ltb-false n (length (z .before)) e) in rw here run-at-cut
 
--- ---- at most ten digits
+-- ---- at most twenty digits
 
 lowest-grows : (n v w : ℕ) → v ≤ w → lowest n v ≤ lowest n w
 unfolding lowest

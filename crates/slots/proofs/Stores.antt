@@ -1,15 +1,19 @@
 -- What is stored: a number as its slot holds it, and runs of stores. One from slot 0 leaves the first slots anew and the others as they were.
-use Prim.Native.Nat.{ℕ, suc, _+_, _≤_, _<_, _^_}
+use Prim.Native.Nat.{ℕ, suc, _+_, _-_, _≤_, _<_, _^_}
 use mathlib.Core.List.{List, [], _∷_, _++_}
-use mathlib.Core.Path.{_≡_, sym, ap, _∙_}
+use mathlib.Core.Bool.{Bool, true, false}
+use mathlib.Core.Path.{_≡_, refl, sym, ap, _∙_}
 use native.Mathlib.Omega.{arith}
-use lib.IntN.{ℤ, pos}
+use borrow.Author.Tests.{lt-ltb, le-ltb}
+use lib.Dec.{ltb}
+use lib.IntN.{ℤ, pos, negsuc}
 use lib.ListN.{length, set, length-append}
 use lib.Seq.{sets, sets-eq}
 use mir.Syntax.{w32, w64}
 use mir.Val.{SFits, toZ, ofZ}
 use mir.Facts.{toZ-ofZ, toZ-pos}
-use Rattle.slots.specs.Slots.{over}
+use Rattle.parser.specs.Reading.{pick}
+use Rattle.slots.specs.Slots.{asSlot, over}
 
 -- ---- a number of 32 bits fits its slot, and stands there as it is
 
@@ -22,6 +26,21 @@ signed-fits f = rw (toZ-ofZ f) (record { sfits = omega arith })
 pub signed : {z : ℤ} → SFits w32 z → toZ w64 (ofZ w64 (toZ w32 (ofZ w32 z))) ≡ z
 signed f = toZ-ofZ (signed-fits f) ∙ toZ-ofZ f
 
+-- ---- a number of 64 bits: its slot has the same bits
+
+pub slot-bits : (n : ℕ) → asSlot n ≡ toZ w64 n
+slot-bits n = go (ltb n (2 ^ 63)) refl
+  where
+    go : (t : Bool) → ltb n (2 ^ 63) ≡ t → pick t (pos n) (negsuc (2 ^ 64 - suc n)) ≡ toZ w64 n
+    go true e = rw e
+    go false e = rw e
+
+pub slot-small : (n : ℕ) → n < 2 ^ 63 → asSlot n ≡ pos n
+slot-small n h = rw (lt-ltb n (2 ^ 63) h)
+
+pub slot-large : (n : ℕ) → 2 ^ 63 ≤ n → asSlot n ≡ negsuc (2 ^ 64 - suc n)
+slot-large n h = rw (le-ltb n (2 ^ 63) h)
+
 -- ---- runs of stores
 
 -- slot by slot
@@ -33,19 +52,12 @@ _then_ {y = y} {xs = xs} e es = ap (λ (z : ℤ). z ∷ xs) e ∙ ap (λ (zs : L
 pub by : {xs ys zs : List ℤ} → zs ≡ ys → xs ≡ ys → xs ≡ zs
 by e i = i ∙ sym e
 
--- three and four from a place on, as the code counts them
+-- three from a place on, as the code counts them
 pub three : (l : List ℤ) (i : ℕ) {a b c x y z : ℤ} → a ≡ x → b ≡ y → c ≡ z → set (set (set l i a) (i + 1) b) (i + 2) c ≡ sets l i (x ∷ y ∷ z ∷ [])
 three l i p q r =
     let e₁ : i + 1 ≡ suc i = omega arith in
     let e₂ : i + 2 ≡ suc (suc i) = omega arith in
     rw (p, q, r, e₁, e₂)
-
-pub four : (l : List ℤ) (i : ℕ) {a b c d x y z w : ℤ} → a ≡ x → b ≡ y → c ≡ z → d ≡ w → set (set (set (set l i a) (i + 1) b) (i + 2) c) (i + 3) d ≡ sets l i (x ∷ y ∷ z ∷ w ∷ [])
-four l i p q r s =
-    let e₁ : i + 1 ≡ suc i = omega arith in
-    let e₂ : i + 2 ≡ suc (suc i) = omega arith in
-    let e₃ : i + 3 ≡ suc (suc (suc i)) = omega arith in
-    rw (p, q, r, s, e₁, e₂, e₃)
 
 pub sets-append : (l : List ℤ) (i : ℕ) (xs ys : List ℤ) → sets l i (xs ++ ys) ≡ sets (sets l i xs) (i + length xs) ys
 sets-append l i [] ys = ap (λ (k : ℕ). sets l k ys) (omega arith)

@@ -7,8 +7,8 @@ use mathlib.Core.Option.{Option, none}
 use mathlib.Core.Path.{_≡_, refl, sym, ap, _∙_}
 use mathlib.Core.Logic.{_⊎_, inl, inr}
 use native.Mathlib.Omega.{arith}
-use borrow.Author.Tests.{ltb-true, ltb-false, lt-leb, leb-true, ne-eqb}
-use lib.Dec.{ltb, leb, eqb}
+use borrow.Author.Tests.{ltb-true, ltb-false, lt-leb, ne-eqb}
+use lib.Dec.{ltb, eqb}
 use lib.ListN.{length, getD, take, drop, replicate, length-append, length-replicate}
 use lib.Seq.{take-all, take-take, take-append-le, length-take-le}
 use Rattle.types.specs.declared.Choices.{Choices}
@@ -18,9 +18,9 @@ use Rattle.types.specs.declared.Reading.{Reading}
 use Rattle.types.specs.declared.Reading.the-variants.{Old, Standard}
 use Rattle.types.specs.declared.Time.{Time}
 use Rattle.parser.specs.Reading.{no, got, stop, lit, seq, opt, alt, orElse, and, pick}
-use Rattle.parser.specs.Digits.{isDigit, digits, numberFrom, number, runAt, ofRun, runAs, nanoseconds, fractionOf}
+use Rattle.parser.specs.Digits.{digits, numberFrom, number, runAt, ofRun, runAs, nanoseconds, fractionOf}
 use Rattle.parser.specs.Fields.{minute, second, either, precededBy, orZero}
-use Rattle.parser.proofs.Fields.{true≢false, and-first, and-second}
+use Rattle.parser.proofs.Fields.{true≢false, digit-within}
 use Rattle.parser.proofs.Places.{no≢got, stop≢got, got-value, got-place}
 use Rattle.parser.proofs.Runs.{AllDigits, none as no-digit, also, run-digits, zero-digits}
 use Rattle.runs.proofs.Nanoseconds.{nanoseconds-small}
@@ -38,9 +38,6 @@ use Rattle.time_writer.proofs.Within.{fractionIn, time-within}
 use Rattle.time_writer.proofs.Laws.{time-spells}
 
 -- ---- digits are told by their number and how many they are
-
-digit-within : (b : ℕ) → isDigit b ≡ true → (48 ≤ b) × (b ≤ 57)
-digit-within b e = (leb-true 48 b (and-first (leb 48 b) (leb b 57) e), leb-true b 57 (and-second (leb 48 b) e))
 
 number-once : (d e : List ℕ) (v w : ℕ) → AllDigits d → AllDigits e → length d ≡ length e → numberFrom v d ≡ numberFrom w e → (v ≡ w) × (d ≡ e)
 unfolding numberFrom

@@ -5,14 +5,14 @@ use mathlib.Core.Path.{_≡_, refl, sym, ap₂, _∙_}
 use native.Mathlib.Omega.{arith}
 use borrow.Author.Tests.{leb-true, leb-false, le-leb, le-ltb, lt-leb}
 use lib.Dec.{leb}
-use lib.IntN.{ℤ, pos, negℤ, _+ℤ_, _*ℤ_, negℤ-+ℤ, negsuc}
+use lib.IntN.{ℤ, pos, negℤ, _*ℤ_, negℤ-+ℤ, negsuc}
 use Rattle.types.specs.declared.Offset.{Offset}
 use Rattle.types.specs.declared.InSeconds.{InSeconds}
 use Rattle.types.specs.declared.MadeOffset.the-variants.{Made, Outside}
 use Rattle.types.specs.declared.Refusal.{Refusal}
 use Rattle.types.specs.declared.Refusal.the-variants.{NoForm, TooBig, LeftOver}
 use Rattle.types.specs.Numbers.{numberOf}
-use Rattle.types.specs.Sums.{and, withSign, signedOffset, made, pickMade, minutesInAll, betweenTheEnds, inRange, sameSign, secondsOf, largest, sumOrOver, within, plus}
+use Rattle.types.specs.Sums.{and, withSign, signedOffset, made, pickMade, minutesInAll, betweenTheEnds, inRange, sameSign, secondsOf, largest, sumOrOver, orOver, plus}
 
 neg-times : (n : ℕ) → negℤ (pos n) *ℤ pos 60 ≡ negℤ (pos (n * 60))
 neg-times zero = refl
@@ -102,12 +102,12 @@ number-once LeftOver LeftOver e = refl
 
 -- what has come to a sum of a so far
 pub record ComesTo (r : InSeconds) (a : ℕ) : Type 0 where
-  pub is : r ≡ within a
+  pub is : r ≡ orOver a
 
 -- a sum that was refused on the way is refused in the end, and no other is
 pub then-plus : {r q : InSeconds} {a : ℕ} (b : ℕ) → ComesTo q a → r ≡ plus q b → ComesTo r (a + b)
 then-plus {a = a} b e f = record { is = f ∙ rw (e .is) (go (leb a largest) refl) }
   where
-    go : (t : Bool) → leb a largest ≡ t → plus (sumOrOver t a) b ≡ within (a + b)
+    go : (t : Bool) → leb a largest ≡ t → plus (sumOrOver t a) b ≡ orOver (a + b)
     go true e = refl
     go false e = sym (rw (lt-leb (a + b) largest (omega (arith, leb-false a largest e))))

@@ -69,7 +69,7 @@ inRange o = betweenTheEnds (minutesInAll o)
 abbrev pub secondsOf : Duration → ℕ
 secondsOf d = (d .years * 365 + d .months * 30 + d .weeks * 7 + d .days) * 86400 + d .hours * 3600 + d .minutes * 60 + d .seconds
 
--- "18,446,744,073,709,551,615"
+-- request W9's limit, of a sum as of a digit run: "18,446,744,073,709,551,615"
 abbrev pub largest : ℕ
 largest = 18446744073709551615
 
@@ -78,15 +78,15 @@ abbrev pub sumOrOver : Bool → ℕ → InSeconds
 sumOrOver true n = Sum n
 sumOrOver false n = Over
 
-abbrev pub within : ℕ → InSeconds
-within n = sumOrOver (leb n largest) n
+abbrev pub orOver : ℕ → InSeconds
+orOver n = sumOrOver (leb n largest) n
 
 unfoldable pub inSeconds : Duration → InSeconds
-inSeconds d = within (secondsOf d)
+inSeconds d = orOver (secondsOf d)
 
 -- so much more, where nothing was refused yet
 abbrev pub plus : InSeconds → ℕ → InSeconds
-plus (Sum a) b = within (a + b)
+plus (Sum a) b = orOver (a + b)
 plus Over b = Over
 
 -- "`has_time` is true exactly when days, hours, minutes and seconds are all above 0"

@@ -1,13 +1,13 @@
 -- What every value has that a reader finds, from whatever bytes: one law for each combinator.
-use Prim.Native.Nat.{ℕ, _+_, _≤_}
-use mathlib.Core.List.{List, [], _∷_}
+use Prim.Native.Nat.{ℕ, _≤_}
+use mathlib.Core.List.{List}
 use mathlib.Core.Bool.{Bool, true, false}
 use mathlib.Core.Option.{Option, some, none}
 use mathlib.Core.Path.{_≡_, refl, ap, _∙_}
 use mathlib.Core.Logic.{_⊎_, inl, inr}
 use native.Mathlib.Omega.{arith}
 use borrow.Author.Tests.{leb-true}
-use lib.ListN.{length, drop}
+use lib.ListN.{drop}
 use Rattle.parser.specs.Reading.{Found, no, got, stop, Reader, then, lack, orElse, keep, keepOrStop, mapFound, lit, seq, opt, alt, verify, must, map, give, pick}
 use Rattle.parser.specs.Digits.{field, digits, number, atMost, limit, runAs, run}
 use Rattle.parser.specs.Fields.{precededBy, orZero}

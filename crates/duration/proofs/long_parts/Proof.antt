@@ -22,7 +22,6 @@ duration-part-requires-4 c κs = search needs
 
 duration-time-requires : tie.Need-duration-time-requires
 duration-time-requires c κs =
-    let s = c .before .before .before .before .before .before .before .before .before .before .args .s .now in
     let i = c .before .before .before .before .before .before .before .before .duration-item .ensures in
     let y = c .before .before .before .before .before .before .before .duration-part .ensures in
     let mo = c .before .before .before .before .before .duration-part2 .ensures in

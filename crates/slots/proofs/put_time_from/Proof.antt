@@ -1,4 +1,4 @@
--- The offset's run goes on where the four numbers end, and the digits behind it.
+-- The time's eight numbers are two runs of four.
 use mathlib.Core.List.{[], _∷_}
 use mathlib.Core.Path.{refl}
 use lib.IntN.{pos}

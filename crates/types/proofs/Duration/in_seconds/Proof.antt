@@ -3,7 +3,7 @@ use Prim.Native.Nat.{_+_, _*_}
 use mathlib.Core.Path.{_≡_, refl, ap, _∙_}
 use native.Mathlib.Omega.{arith}
 use borrow.Author.Needs.{needs}
-use Rattle.types.specs.Sums.{secondsOf, within, inSeconds}
+use Rattle.types.specs.Sums.{secondsOf, orOver, inSeconds}
 use Rattle.types.proofs.Laws.{then-plus}
 use Rattle.types.proofs.Duration.in_seconds.Statement.{statement}
 use Rattle.types.proofs.Duration.in_seconds.Tie as tie
@@ -20,7 +20,7 @@ returns c =
     let minutes = then-plus (d .minutes * 60) hours (c .before .plus6 .ensures) in
     let seconds = then-plus (d .seconds * 1) minutes (c .plus7 .ensures) in
     let all : 0 + d .years * 31536000 + d .months * 2592000 + d .weeks * 604800 + d .days * 86400 + d .hours * 3600 + d .minutes * 60 + d .seconds * 1 ≡ secondsOf d = omega arith in
-    seconds .is ∙ ap within all
+    seconds .is ∙ ap orOver all
 
 pub in-seconds-spec : {M : Type 1} → statement M
 in-seconds-spec =

@@ -1,6 +1,5 @@
 -- So many times a unit are within what is left exactly where the number is within its quotient by the unit.
 use Prim.Native.Nat.{ℕ, _+_, _*_, _-_, _/_, _≤_, _<_}
-use mathlib.Core.Path.{_≡_}
 use native.Mathlib.Omega.{arith}
 use native.Mathlib.Nat.{le-div-iff-mul-le, div-lt-iff-lt-mul}
 use borrow.Author.Needs.{needs}
