@@ -71,12 +71,20 @@ static void reads(const uint64_t *parts, const char *text)
     expect(tirozhbar_duration((const uint8_t *)text, length, slots, SLOTS - 1) == TIROZHBAR_TOO_FEW, "few slots", text);
 }
 
+static int untouched(const uint8_t *from, const uint8_t *to)
+{
+    while (from < to)
+        if (*from++ != FILLING)
+            return 0;
+    return 1;
+}
+
 /* And they are written as this text, into a buffer that is just long enough, and into none that is shorter. */
 static void writes(const uint64_t *parts, const char *text)
 {
     uint8_t buffer[ROOM];
     int64_t slots[SLOTS];
-    size_t length = strlen(text), at;
+    size_t length = strlen(text);
     int part;
 
     memset(buffer, FILLING, sizeof buffer);
@@ -84,12 +92,10 @@ static void writes(const uint64_t *parts, const char *text)
     for (part = 0; part < PARTS; part++)
         slots[FIRST + part] = (int64_t)parts[part];
     expect(tirozhbar_write_duration(slots, SLOTS, buffer, length - 1) == TIROZHBAR_TOO_SHORT && slots[0] == 0, "too short", text);
-    for (at = 0; at < sizeof buffer; at++)
-        expect(buffer[at] == FILLING, "too short, and written", text);
+    expect(untouched(buffer, buffer + ROOM), "too short, and written", text);
     expect(tirozhbar_write_duration(slots, SLOTS, buffer, length) == TIROZHBAR_RECORD && slots[0] == (int64_t)length, "written", text);
     expect(memcmp(buffer, text, length) == 0, "what is written", text);
-    for (at = length; at < sizeof buffer; at++)
-        expect(buffer[at] == FILLING, "behind what is written", text);
+    expect(untouched(buffer + length, buffer + ROOM), "behind what is written", text);
 }
 
 static void both(const uint64_t *parts)
