@@ -15,7 +15,7 @@
 
 #include "tirozhbar.h"
 
-enum { PARTS = 7, ROOM = 512, FILLING = 0x5A, FIRST = TIROZHBAR_DURATION_YEARS, SLOTS = TIROZHBAR_DURATION_SLOTS };
+enum { PARTS = 7, ROOM = 512, FILLING = 0xA5, FIRST = TIROZHBAR_DURATION_YEARS, SLOTS = TIROZHBAR_DURATION_SLOTS };
 
 static const char letters[] = "YMWDHMS";
 
@@ -54,18 +54,30 @@ static size_t spell(const uint64_t *parts, int zeros, char *text)
     return (size_t)(length > 1 ? length : sprintf(text, "PT0S"));
 }
 
-/* Both readers leave these numbers. */
+static void fill(int64_t *slots)
+{
+    int slot;
+
+    for (slot = 0; slot < SLOTS; slot++)
+        slots[slot] = FILLING;
+}
+
+/* Both readers leave these numbers. Behind seconds nothing can follow, and behind any other part something can. */
 static void reads(const uint64_t *parts, const char *text)
 {
     int64_t slots[SLOTS];
     size_t length = strlen(text);
+    int verdict = text[length - 1] == 'S' ? TIROZHBAR_SETTLED : TIROZHBAR_OPEN;
     int part;
 
+    fill(slots);
     expect(tirozhbar_parse_duration((const uint8_t *)text, length, slots, SLOTS) == TIROZHBAR_RECORD, "read", text);
     expect(slots[TIROZHBAR_COUNT] == (int64_t)length && slots[TIROZHBAR_VERDICT] == TIROZHBAR_NO_VERDICT, "its count", text);
     for (part = 0; part < PARTS; part++)
         expect((uint64_t)slots[FIRST + part] == parts[part], "a number", text);
+    fill(slots);
     expect(tirozhbar_duration((const uint8_t *)text, length, slots, SLOTS) == TIROZHBAR_RECORD, "begun", text);
+    expect(slots[TIROZHBAR_COUNT] == (int64_t)length && slots[TIROZHBAR_VERDICT] == verdict, "its count and verdict", text);
     for (part = 0; part < PARTS; part++)
         expect((uint64_t)slots[FIRST + part] == parts[part], "a number of what is begun", text);
     expect(tirozhbar_duration((const uint8_t *)text, length, slots, SLOTS - 1) == TIROZHBAR_TOO_FEW, "few slots", text);
@@ -88,12 +100,12 @@ static void writes(const uint64_t *parts, const char *text)
     int part;
 
     memset(buffer, FILLING, sizeof buffer);
-    slots[TIROZHBAR_COUNT] = slots[TIROZHBAR_VERDICT] = FILLING;
+    fill(slots);
     for (part = 0; part < PARTS; part++)
         slots[FIRST + part] = (int64_t)parts[part];
-    expect(tirozhbar_write_duration(slots, SLOTS, buffer, length - 1) == TIROZHBAR_TOO_SHORT && slots[0] == 0, "too short", text);
+    expect(tirozhbar_write_duration(slots, SLOTS, buffer, length - 1) == TIROZHBAR_TOO_SHORT && slots[TIROZHBAR_COUNT] == 0, "too short", text);
     expect(untouched(buffer, buffer + ROOM), "too short, and written", text);
-    expect(tirozhbar_write_duration(slots, SLOTS, buffer, length) == TIROZHBAR_RECORD && slots[0] == (int64_t)length, "written", text);
+    expect(tirozhbar_write_duration(slots, SLOTS, buffer, length) == TIROZHBAR_RECORD && slots[TIROZHBAR_COUNT] == (int64_t)length, "written", text);
     expect(memcmp(buffer, text, length) == 0, "what is written", text);
     expect(untouched(buffer + length, buffer + ROOM), "behind what is written", text);
 }
@@ -122,8 +134,7 @@ static void refuses(const uint64_t *parts, int big, const char *run)
         length += part == big ? sprintf(text + length, "%s%c", run, letters[part])
                               : sprintf(text + length, "%" PRIu64 "%c", parts[part], letters[part]);
     }
-    for (part = 0; part < SLOTS; part++)
-        slots[part] = FILLING;
+    fill(slots);
     expect(tirozhbar_duration((const uint8_t *)text, (size_t)length, slots, SLOTS) == TIROZHBAR_TOO_BIG, "too big", text);
     expect(slots[TIROZHBAR_COUNT] == 0 && slots[TIROZHBAR_VERDICT] == TIROZHBAR_SETTLED, "too big, and its verdict", text);
     for (part = 0; part < PARTS; part++)

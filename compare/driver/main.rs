@@ -151,7 +151,7 @@ impl Tally {
                 self.wide += 1;
                 self.too_big += u64::from(answer.as_deref() == Some("2 0 2 0 -"));
             }
-            // What the original reads is compared: the rule for wide runs hides nothing.
+            // The rule names it and the original reads it: a difference, so that the rule hides nothing.
             (true, Outcome::Answered(words)) => {
                 let text = text.escape_ascii();
                 self.differs(&format!(
