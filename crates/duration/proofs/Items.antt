@@ -19,7 +19,7 @@ use Rattle.parts.proofs.Items.{run-inside, run-to-end, run-stop}
 use Rattle.duration.specs.Rules.{part, present}
 use Rattle.duration.specs.Items.{isCut, unlessTooBig}
 
--- ---- what a part finds, by the look at its place
+-- ---- what a part finds, by what stands at its place
 
 abbrev partFound : ℕ → Item → Found ℕ
 partFound c (item.Number v b n) = pick (eqb b c) (got v n) no

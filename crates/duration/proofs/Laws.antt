@@ -9,6 +9,7 @@ use Rattle.parser.specs.Reading.{Found, Reader, lit, seq, opt, verify, give, or
 use Rattle.parser.specs.Answer.{begun, Begins, verdictOf}
 use Rattle.parser.specs.Digits.{isDigit}
 use Rattle.parser.proofs.Places.{Bounded, Fails}
+use Rattle.parser.proofs.General.{Eager}
 use Rattle.parser.proofs.Hopeful.{Anything}
 use Rattle.parser.proofs.Alike.{verify-behind}
 use Rattle.parser.proofs.Lawful.{member, byte, lawful-begins, TailIf, give-tail, seq-tail, Item, map-item, opt-tail-if, required-item, alike-item}
@@ -55,6 +56,9 @@ no-time-fails s at h = rw (part-item 72 refl refl .fails s at h, part-item 77 re
 base-time-item : Item bytes isDigit 2 2 Anything durationBaseTime
 unfolding durationBaseTime
 base-time-item = map-item _ (required-item someTime (part-item 72 refl refl) minutes-tail (λ v _. refl) no-time-fails)
+
+pub base-time-eager : Eager durationBaseTime
+base-time-eager = base-time-item .eager
 
 time-item : Item bytes isDigit 2 2 Anything durationTime
 unfolding durationTime

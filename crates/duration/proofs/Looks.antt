@@ -33,8 +33,8 @@ module _ (s : List ℕ) (at : ℕ) where
   not-both : DigitAt s at → OtherAt s at → ⊥
   not-both d o = true≢false (sym (d .is) ∙ o .is)
 
-  pub within : DigitAt s at → (48 ≤ getD s at 0) × (getD s at 0 ≤ 57)
-  within d = digit-within (getD s at 0) (d .is)
+  pub digit-bytes : DigitAt s at → (48 ≤ getD s at 0) × (getD s at 0 ≤ 57)
+  digit-bytes d = digit-within (getD s at 0) (d .is)
 
   other-of : at < length s → isDigit (getD s at 0) ≡ false → OtherAt s at
   other-of h o = record { inside = lt-ltb at (length s) h; is = o }
@@ -98,9 +98,7 @@ module _ (s : List ℕ) (at l c : ℕ) (small : c < 256) where
 
 module _ (s : List ℕ) (at c : ℕ) where
   one-part : One s at c → DigitAt s at → partAt s at c ≡ partOf (getD s at 0 - 48) (at + 2)
-  one-part o d =
-      let p : at + 1 + 1 ≡ at + 2 = omega arith in
-      rw (digit-item s at d (o .ends), eq-eqb _ _ (o .letter), p)
+  one-part o d = rw (digit-item s at d (o .ends), eq-eqb _ _ (o .letter))
 
   two-part : Two s at c → partAt s at c ≡ partOf ((getD s at 0 - 48) * 10 + (getD s (at + 1) 0 - 48)) (at + 3)
   two-part t = rw (two-digit-item s at (t .first) (t .second) (t .ends), eq-eqb _ _ (t .letter))
@@ -229,5 +227,5 @@ module _ (s : List ℕ) (at l : ℕ) (r : Start) where
   starts-behind h e k p q = record {
     next = p ∙ rw (lt-ltb at (length s) h, eq-eqb (getD s at 0) 84 e);
     behind = rw p q;
-    long = λ x. absurd (omega (arith, within s at (look-long s at l k x) .1));
+    long = λ x. absurd (omega (arith, digit-bytes s at (look-long s at l k x) .1));
   }

@@ -1,28 +1,28 @@
 -- What the code makes of the time is what the rules read: part by part, each from the place that the one before it left.
-use Prim.Native.Nat.{ℕ, _+_, _<_, _≤_}
+use Prim.Native.Nat.{ℕ, _<_, _≤_}
 use mathlib.Core.List.{List}
 use mathlib.Core.Bool.{Bool, true, false}
 use mathlib.Core.Option.{some, none}
 use mathlib.Core.Path.{_≡_, refl, sym, _∙_}
 use native.Mathlib.Omega.{arith}
-use lib.ListN.{length, getD}
 use lib.Dec.{ltb, eqb}
 use borrow.Author.Tests.{ltb-true, ltb-false, lt-ltb, le-ltb}
-use Rattle.parser.specs.Reading.{Found, no, got, stop, lit, seq, opt, verify, keep, map, mapFound, give, pick, or, and, Says}
+use Rattle.parser.specs.Reading.{Found, no, got, stop, lit, seq, opt, verify, keep, map, mapFound, give, pick, or, Says}
 use Rattle.parser.specs.Read.{placeAfter}
 use Rattle.parser.proofs.Fields.{true≢false}
-use Rattle.parser.proofs.Says.{says-map, says-verify, says-opt, says-seq-got}
+use Rattle.parser.proofs.General.{says-past}
+use Rattle.parser.proofs.Says.{says-map, says-verify}
 use Rattle.parser.specs.Fields.{orZero}
 use Rattle.duration.specs.Rules.{part, present, TimeParts, someTime, timeOf, durationBaseTime, durationTime}
-use Rattle.parts.specs.Items.{itemAt, here, past, absentPart, partAt}
+use Rattle.parts.specs.Items.{itemAt, here, past, partOf, absentPart, partBy, partAt}
 use Rattle.duration.specs.Items.{isCut, unlessTooBig, timeParts}
 use Rattle.duration.specs.declared.DurationTimeParts.{DurationTimeParts}
 use Rattle.parts.specs.declared.Part.{Part}
 use Rattle.parts.specs.declared.Item.{Item}
 use Rattle.parts.specs.declared.Item.the-variants as item
-use Rattle.parts.proofs.Items.{no-letter, end-item}
+use Rattle.parts.proofs.Items.{no-letter}
 use Rattle.duration.proofs.Items.{Heeds, part-heeds, optional-part, last-part, map-pick, further}
-use Rattle.duration.proofs.Laws.{clock, from-seconds, from-minutes}
+use Rattle.duration.proofs.Laws.{clock, from-seconds, from-minutes, base-time-eager}
 
 -- ---- H, M and S
 
@@ -69,10 +69,10 @@ base-time s at =
     record { found = sym (kept-time (itemAt s sat) t end ∙ rw some) ∙ whole .found; more = whole .more }
 
 -- a part that is not there is absent
-part-absent : (at : ℕ) (i : Item) → present (here 83 i) ≡ false → record { value = orZero (here 83 i); next = past 83 at i } ≡ absentPart at
+part-absent : (at : ℕ) (i : Item) → present (here 83 i) ≡ false → partBy i at 83 ≡ absentPart at
 part-absent at (item.Number v b n) e = letter (eqb b 83) e
   where
-    letter : (t : Bool) → present (pick t (some v) none) ≡ false → record { value = orZero (pick t (some v) none); next = pick t n at } ≡ absentPart at
+    letter : (t : Bool) → present (pick t (some v) none) ≡ false → partOf (orZero (pick t (some v) none)) (pick t n at) ≡ absentPart at
     letter true e = absurd (true≢false e)
     letter false e = refl
 part-absent at item.TooBig e = refl
@@ -119,34 +119,17 @@ pub or-false : (m : Bool) → or m false ≡ m
 or-false true = refl
 or-false false = refl
 
-time-with : (s : List ℕ) (at n : ℕ) (u : Unit) (f : Found DurationTimeParts) (m : Bool) → Says (lit 84) s at (got u n) false → Says durationBaseTime s n f m → Says durationTime s at f m
-unfolding durationTime
-time-with s at n u f m t k = says-seq-got (opt (lit 84)) s at (λ _. durationBaseTime) (some u) n false f m (says-opt (lit 84) s at (got u n) false t) k
-
--- at the end of the input the parts are open as the `T` is
-time-without : (s : List ℕ) (at : ℕ) (f : Found DurationTimeParts) (m : Bool) → no ≡ lit 84 .reads s at → Says durationBaseTime s at f m → Says durationTime s at f m
-unfolding durationTime lit
-time-without s at f m t k = go (ltb at (length s)) refl
-  where
-    without : (b : Bool) → b ≡ lit 84 .more s at → Says (seq (opt (lit 84)) (λ _. durationBaseTime)) s at f (or b m)
-    without b e = says-seq-got (opt (lit 84)) s at (λ _. durationBaseTime) none at b f m (says-opt (lit 84) s at no b (record { found = t; more = e })) k
-
-    go : (b : Bool) → ltb at (length s) ≡ b → Says (seq (opt (lit 84)) (λ _. durationBaseTime)) s at f m
-    go true e = without false (rw e)
-    go false e = rw (k .more ∙ base-heeds s at .opens (end-item s at (ltb-false at (length s) e))) (without true (rw e))
-
 -- from the place behind its `T`, if there is one
 pub time-at : (s : List ℕ) (at n : ℕ) (f : Found DurationTimeParts) (m : Bool) → n ≡ placeAfter at (lit 84 .reads s at) → Says durationBaseTime s n f m → Says durationTime s at f m
-unfolding lit
-time-at s at n f m e k = go (ltb at (length s)) (eqb (getD s at 0) 84) refl refl e
-  where
-    go : (t u : Bool) → ltb at (length s) ≡ t → eqb (getD s at 0) 84 ≡ u → n ≡ placeAfter {A = Unit} at (pick (and t u) (got tt (at + 1)) no) → Says durationTime s at f m
-    go true true i h e = time-with s at (at + 1) tt f m (record { found = rw (i, h); more = rw i }) (rw e at k)
-    go true false i h e = time-without s at f m (rw (i, h)) (rw e at k)
-    go false u i h e = time-without s at f m (rw i) (rw e at k)
+unfolding durationTime
+time-at = says-past 84 durationBaseTime base-time-eager
 
 pub time-heeds : (s : List ℕ) (at : ℕ) → Heeds durationTime s at
 time-heeds s at = record {
-  stops = λ e. time-without s at (stop 2) false (sym (no-letter 84 s at refl (λ w. let z : _≡_ {A = ℕ} 0 1 = cc in omega arith))) (base-heeds s at .stops e);
-  opens = λ e. sym (time-without s at _ true (sym (no-letter 84 s at refl (λ w. let z : _≡_ {A = ℕ} 0 1 = cc in omega arith))) (record { found = refl; more = sym (base-heeds s at .opens e) }) .more);
+  stops = λ e. here (stop 2) false (λ w. let z : _≡_ {A = ℕ} 0 1 = cc in omega arith) (base-heeds s at .stops e);
+  opens = λ e. sym (here _ true (λ w. let z : _≡_ {A = ℕ} 0 1 = cc in omega arith) (record { found = refl; more = sym (base-heeds s at .opens e) }) .more);
 }
+  where
+    -- no `T` stands where a run does, or the end
+    here : (f : Found DurationTimeParts) (m : Bool) → (itemAt s at ≡ item.Wrong → ⊥) → Says durationBaseTime s at f m → Says durationTime s at f m
+    here f m no-byte k = time-at s at at f m (rw (no-letter 84 s at refl no-byte)) k

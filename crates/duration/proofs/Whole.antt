@@ -8,12 +8,12 @@ use native.Mathlib.Omega.{arith}
 use lib.Dec.{ltb}
 use borrow.Author.Tests.{le-ltb}
 use Rattle.types.specs.declared.Duration.{Duration}
-use Rattle.parser.specs.Reading.{Found, no, got, stop, Reader, lit, seq, opt, lack, verify, keep, map, mapFound, give, or, Says}
+use Rattle.parser.specs.Reading.{Found, no, got, stop, lit, seq, opt, lack, verify, keep, map, mapFound, give, or, Says}
 use Rattle.parser.proofs.Says.{says-map, says-verify, says-opt, says-seq-got, says-seq-no, says-seq-stop}
 use Rattle.parser.specs.Fields.{orZero}
 use Rattle.duration.specs.Rules.{present, durationBaseTime, durationTime, partsRule, somePart, durationOf, duration}
-use Rattle.parts.specs.Items.{itemAt, here, past, absentPart, partAt}
-use Rattle.duration.specs.Items.{isCut, timeParts, recordOf, allParts}
+use Rattle.parts.specs.Items.{itemAt, here, past, partOf, absentPart, partAt}
+use Rattle.duration.specs.Items.{isCut, timeParts, behindP, recordOf, allParts}
 use Rattle.duration.specs.Looks.{longRun, noPart, Short, Starts, DateParts}
 use Rattle.duration.specs.declared.DurationTimeParts.{DurationTimeParts}
 use Rattle.duration.specs.declared.Looked.{Looked}
@@ -42,10 +42,7 @@ module _ (y mo w d : Option ℕ) (s : List ℕ) (at : ℕ) where
 
 -- ---- one part is given, and an absent one is 0
 
-abbrev part-of : Option ℕ → ℕ → Part
-part-of o n = record { value = orZero o; next = n }
-
-kept-parts : (at i j k n : ℕ) (y mo w d : Option ℕ) → or (present y) (or (present mo) (or (present w) (present d))) ≡ ltb at n → (f : Found DurationTimeParts) → mapFound durationOf (keep somePart (mapFound (parts y mo w d) (lack n f))) ≡ allParts at (part-of y i) (part-of mo j) (part-of w k) (part-of d n) f
+kept-parts : (at i j k n : ℕ) (y mo w d : Option ℕ) → or (present y) (or (present mo) (or (present w) (present d))) ≡ ltb at n → (f : Found DurationTimeParts) → mapFound durationOf (keep somePart (mapFound (parts y mo w d) (lack n f))) ≡ allParts at (partOf (orZero y) i) (partOf (orZero mo) j) (partOf (orZero w) k) (partOf (orZero d) n) f
 kept-parts at i j k n y mo w d e no = rw (or-false (present d), e) (sym (map-pick durationOf (ltb at n) (parts y mo w d none) n))
 kept-parts at i j k n y mo w d e (stop r) = refl
 kept-parts at i j k n y mo w d e (got t x) = rw (or-true (present d), or-true (present w), or-true (present mo), or-true (present y))
@@ -64,7 +61,7 @@ after-w s at = past 87 (after-mo s at) (itemAt s (after-mo s at))
 abbrev after-d : List ℕ → ℕ → ℕ
 after-d s at = past 68 (after-w s at) (itemAt s (after-w s at))
 
-all-parts : (s : List ℕ) (at : ℕ) (f : Found DurationTimeParts) (m : Bool) → Says durationTime s (after-d s at) f m → Says (map durationOf (verify somePart partsRule)) s at (allParts at (partAt s at 89) (partAt s (after-y s at) 77) (partAt s (after-mo s at) 87) (partAt s (after-w s at) 68) f) m
+all-parts : (s : List ℕ) (at : ℕ) (f : Found DurationTimeParts) (m : Bool) → Says durationTime s (after-d s at) f m → Says behindP s at (allParts at (partAt s at 89) (partAt s (after-y s at) 77) (partAt s (after-mo s at) 87) (partAt s (after-w s at) 68) f) m
 unfolding partsRule
 all-parts s at f m k =
     let mat = after-y s at in
@@ -88,10 +85,7 @@ all-parts s at f m k =
     let some : or (present y) (or (present mo) (or (present w) (present d))) ≡ ltb at tat = rw (yf .there, mf .there, wf .there, df .there) (or-lt at mat tat _ (yf .order) (omega arith) (or-lt mat wat tat _ (mf .order) (omega arith) (or-lt wat dat tat _ (wf .order) (df .order) refl))) in
     record { found = sym (kept-parts at mat wat dat tat y mo w d some f) ∙ whole .found; more = whole .more }
 
-abbrev whole : Reader Duration
-whole = map durationOf (verify somePart partsRule)
-
-pub parts-made : (s : List ℕ) (at : ℕ) (y mo w d : Part) (f : Found DurationTimeParts) (m : Bool) (g : Found Duration) → DateParts s at y mo w d → Says durationTime s (d .next) f m → g ≡ allParts at y mo w d f → Says whole s at g m
+pub parts-made : (s : List ℕ) (at : ℕ) (y mo w d : Part) (f : Found DurationTimeParts) (m : Bool) (g : Found Duration) → DateParts s at y mo w d → Says durationTime s (d .next) f m → g ≡ allParts at y mo w d f → Says behindP s at g m
 parts-made s at y mo w d f m g e k eg = rw (eg, e .days, e .weeks, e .months, e .years) (all-parts s at f m (rw (e .days, e .weeks, e .months, e .years) at k))
 
 -- ---- the same by looks
@@ -111,7 +105,7 @@ module _ (s : List ℕ) (at l : ℕ) (y mo w d : Looked) (years : Short s at 89 
 
 module _ (s : List ℕ) (at : ℕ) (y mo w d : Part) (l : ℕ) (date : (l ≡ longRun → ⊥) → DateParts s at y mo w d) (st : Start) (begins : Starts s (d .next) l st) where
   -- no part of a time
-  pub without-time : (g : Found Duration) → st .look ≡ noPart → g ≡ allParts at y mo w d no → Says whole s at g (isCut (itemAt s (st .next)))
+  pub without-time : (g : Found Duration) → st .look ≡ noPart → g ≡ allParts at y mo w d no → Says behindP s at g (isCut (itemAt s (st .next)))
   without-time g e eg =
       let from = st .next in
       let short : st .look ≡ longRun → ⊥ = λ q. omega arith in
@@ -129,22 +123,22 @@ module _ (s : List ℕ) (at : ℕ) (y mo w d : Part) (l : ℕ) (date : (l ≡ lo
       short-start : st .look ≡ longRun → ⊥
       short-start q = short-hour (hour .long q .0)
 
-      timed : (f : Found DurationTimeParts) (o : Bool) (g : Found Duration) → Says durationBaseTime s (st .next) f o → g ≡ allParts at y mo w d f → Says whole s at g o
+      timed : (f : Found DurationTimeParts) (o : Bool) (g : Found Duration) → Says durationBaseTime s (st .next) f o → g ≡ allParts at y mo w d f → Says behindP s at g o
       timed f o g k eg = parts-made s at y mo w d f o g (date (λ q. short-start (begins .long q))) (time-at s (d .next) (st .next) f o (begins .next) k) eg
 
-      pub without-second : (g : Found Duration) → x .part .next ≤ m .part .next → g ≡ allParts at y mo w d (timeParts (st .next) (h .part) (m .part) (absentPart (m .part .next))) → Says whole s at g (isCut (itemAt s (m .part .next)))
+      pub without-second : (g : Found Duration) → x .part .next ≤ m .part .next → g ≡ allParts at y mo w d (timeParts (st .next) (h .part) (m .part) (absentPart (m .part .next))) → Says behindP s at g (isCut (itemAt s (m .part .next)))
       without-second g le eg =
           let k = without-seconds s (st .next) (h .part) (m .part) (x .part) (hour .part short-start) (minute .part short-hour) (second .part short) le in
           timed _ _ g (rw (look-stands s (m .part .next) (m .look) short (minute .behind) .small _) at k) eg
 
-    pub with-second : (v : Duration) → m .part .next < x .part .next → v ≡ recordOf y mo w d (record { hours = h .part .value; minutes = m .part .value; seconds = x .part .value }) → Says whole s at (got v (x .part .next)) false
+    pub with-second : (v : Duration) → m .part .next < x .part .next → v ≡ recordOf y mo w d (record { hours = h .part .value; minutes = m .part .value; seconds = x .part .value }) → Says behindP s at (got v (x .part .next)) false
     with-second v lt ev =
         let short : m .look ≡ longRun → ⊥ = λ q. omega (arith, second .long q .1) in
         timed short _ _ _ (with-seconds s (st .next) (h .part) (m .part) (x .part) (hour .part (short-start short)) (minute .part (short-hour short)) (second .part short) lt) (rw ev)
 
 -- ---- `P`
 
-pub with-p : (s : List ℕ) (at n : ℕ) (u : Unit) (f : Found Duration) (m : Bool) → Says (lit 80) s at (got u n) false → Says whole s n f m → Says duration s at f m
+pub with-p : (s : List ℕ) (at n : ℕ) (u : Unit) (f : Found Duration) (m : Bool) → Says (lit 80) s at (got u n) false → Says behindP s n f m → Says duration s at f m
 unfolding duration map verify seq
 with-p s at n u f m p k = record { found = rw (← p .found) (k .found); more = rw (← p .found, ← p .more) (k .more) }
 

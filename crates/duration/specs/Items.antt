@@ -4,11 +4,11 @@ use mathlib.Core.Bool.{Bool, true, false}
 use mathlib.Core.Option.{none}
 use lib.Dec.{ltb}
 use Rattle.types.specs.declared.Duration.{Duration}
-use Rattle.parser.specs.Reading.{Found, no, got, stop, pick}
+use Rattle.parser.specs.Reading.{Found, no, got, stop, Reader, verify, map, pick}
 use Rattle.parts.specs.declared.Item.{Item}
 use Rattle.parts.specs.declared.Item.the-variants as item
 use Rattle.parts.specs.declared.Part.{Part}
-use Rattle.duration.specs.Rules.{timeOrZero}
+use Rattle.duration.specs.Rules.{partsRule, somePart, timeOrZero, durationOf}
 use Rattle.duration.specs.declared.DurationTimeParts.{DurationTimeParts}
 
 abbrev pub isCut : Item → Bool
@@ -29,6 +29,10 @@ timeParts at h m x = pick (ltb at (x .next)) (got (record { hours = h .value; mi
 
 abbrev pub recordOf : Part → Part → Part → Part → DurationTimeParts → Duration
 recordOf y mo w d t = record { years = y .value; months = mo .value; weeks = w .value; days = d .value; hours = t .hours; minutes = t .minutes; seconds = t .seconds }
+
+-- what is read behind the `P`
+abbrev pub behindP : Reader Duration
+behindP = map durationOf (verify somePart partsRule)
 
 -- Y, M, W and D from a place on, and the time that was read behind them: without it, one of them is there
 abbrev pub allParts : ℕ → Part → Part → Part → Part → Found DurationTimeParts → Found Duration

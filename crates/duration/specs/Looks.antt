@@ -27,7 +27,7 @@ pub data Looks (s : List ℕ) (at l : ℕ) : Type 0 where
   one : l ≡ getD s (at + 1) 0 → l < 256 → at + 2 ≤ length s → isDigit (getD s (at + 1) 0) ≡ false → Looks s at l
   -- two digits
   two : l ≡ getD s (at + 2) 0 + 256 → l < 512 → at + 3 ≤ length s → digit s at ≡ true → digit s (at + 1) ≡ true → isDigit (getD s (at + 2) 0) ≡ false → Looks s at l
-  -- three or more, of which nothing else is told
+  -- a digit stands there, and nothing else is told: so of three or more
   long : l ≡ longRun → digit s at ≡ true → Looks s at l
 
 -- a part that was tried by a look: where the run is long it is not known, and place and look stay as they are

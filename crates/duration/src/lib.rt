@@ -3,11 +3,11 @@
 ghost use Prim.Native.Nat.{_+_, _<_, _≤_};
 ghost use mathlib.Core.Path.{_≡_};
 ghost use lib.ListN.{length, getD};
-ghost use Rattle.parser.specs.Reading.{no, verify, map, Says};
-ghost use Rattle.duration.specs.Rules.{durationBaseTime, durationTime, partsRule, somePart, durationOf, duration};
+ghost use Rattle.parser.specs.Reading.{no, Says};
+ghost use Rattle.duration.specs.Rules.{durationBaseTime, durationTime, duration};
 ghost use Rattle.duration.specs.Answer.{timeFound, timeMore, durationFound, durationMore};
 ghost use Rattle.parts.specs.Items.{itemAt, absentPart};
-ghost use Rattle.duration.specs.Items.{isCut, unlessTooBig, timeParts, recordOf, allParts};
+ghost use Rattle.duration.specs.Items.{isCut, unlessTooBig, timeParts, behindP, recordOf, allParts};
 ghost use Rattle.duration.specs.Looks.{longRun, Looks, Short, Starts, DateParts};
 use parser::Mark;
 use parts::Item;
@@ -22,7 +22,7 @@ pub struct DurationTimeParts {
 }
 
 // What the time portion finds. `more`: the input ended where a byte more could still matter.
-pub enum TimeFound {
+enum TimeFound {
     Got {
         value: DurationTimeParts,
         next: usize,
@@ -197,7 +197,7 @@ fn all_parts(at: usize, y: Part, mo: Part, w: Part, d: Part, time: TimeFound) ->
 
 // [Y][M][W][D][[T][H][M][S]], with runs of any length
 fn long_parts(s: &[u8], at: usize) -> DurationFound
-    ensures { λ r. ⌜ Says (map durationOf (verify somePart partsRule)) (now (s .entry)) at (durationFound r) (durationMore r) ⌝ }
+    ensures { λ r. ⌜ Says behindP (now (s .entry)) at (durationFound r) (durationMore r) ⌝ }
 {
     let y = parts::duration_part(s, at, 89, parts::duration_item(s, at));
     let year = y.part;
@@ -221,8 +221,8 @@ fn long_parts(s: &[u8], at: usize) -> DurationFound
     )
 }
 
-// What a look at a place tells of the part there is a number: the byte behind one that may be a digit, where it is none itself; 256 more
-// than the byte behind two digits; LONG where three digits stand; NONE where no part does.
+// A look at a place tells of the part there in one number: the second byte, where that is no digit (the first may be none either); 256 more
+// than the third, behind two digits; LONG, where three digits stand; NONE, where no part does, or not yet.
 const LONG: u32 = 512;
 
 const NONE: u32 = 513;
@@ -371,10 +371,11 @@ fn is_open(s: &[u8], at: usize, look: u32) -> bool
 // What Y, M, W and D make with the time behind them, by the look there.
 fn with_time(s: &[u8], at: usize, y: Part, mo: Part, w: Part, d: Part, look: u32) -> DurationFound
     requires { ⌜ (Looks (now s) (d .next) look) × ((look ≡ longRun → ⊥) → DateParts (now s) at y mo w d) ⌝ }
-    ensures { λ r. ⌜ Says (map durationOf (verify somePart partsRule)) (now (s .entry)) at (durationFound r) (durationMore r) ⌝ }
+    ensures { λ r. ⌜ Says behindP (now (s .entry)) at (durationFound r) (durationMore r) ⌝ }
 {
     let start = time_start(s, d.next, look);
     let from = start.next;
+    // no part of a time: the same as below, sooner
     if start.look == NONE {
         return date_parts(at, y, mo, w, d, is_open(s, from, NONE));
     }
@@ -407,7 +408,7 @@ fn with_time(s: &[u8], at: usize, y: Part, mo: Part, w: Part, d: Part, look: u32
 
 // [Y][M][W][D][[T][H][M][S]]
 fn duration_parts(s: &[u8], at: usize) -> DurationFound
-    ensures { λ r. ⌜ Says (map durationOf (verify somePart partsRule)) (now (s .entry)) at (durationFound r) (durationMore r) ⌝ }
+    ensures { λ r. ⌜ Says behindP (now (s .entry)) at (durationFound r) (durationMore r) ⌝ }
 {
     let y = short_part(s, at, 89, first_look(s, at));
     let year = y.part;

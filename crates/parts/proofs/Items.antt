@@ -2,7 +2,7 @@
 use Prim.Native.Nat.{ℕ, _+_, _*_, _-_, _<_, _≤_}
 use mathlib.Core.List.{List, [], _∷_}
 use mathlib.Core.Bool.{Bool, true, false, not}
-use mathlib.Core.Path.{_≡_, refl, sym, ap, _∙_}
+use mathlib.Core.Path.{_≡_, refl, sym, ap₂, _∙_}
 use native.Mathlib.Omega.{arith}
 use lib.ListN.{length, getD}
 use lib.Dec.{ltb, leb, eqb}
@@ -61,12 +61,15 @@ module _ (s : List ℕ) (at : ℕ) (d : DigitAt s at) where
   small : leb (0 * 10 + (getD s at 0 - 48)) limit ≡ true
   small = le-leb (0 * 10 + (getD s at 0 - 48)) limit (omega (arith, digit-within (getD s at 0) (d .is) .1))
 
-  pub digit-item : OtherAt s (at + 1) → itemAt s at ≡ item.Number (getD s at 0 - 48) (getD s (at + 1) 0) (at + 1 + 1)
+  pub digit-item : OtherAt s (at + 1) → itemAt s at ≡ item.Number (getD s at 0 - 48) (getD s (at + 1) 0) (at + 2)
   unfolding itemAt runAs numberFrom
-  digit-item o = rw (run-step s at d, run-other s (at + 1) o, small, lt-ltb (at + 1) (length s) (ltb-true (at + 1) (length s) (o .inside))) (ap (λ (v : ℕ). item.Number v (getD s (at + 1) 0) (at + 1 + 1)) value)
+  digit-item o = rw (run-step s at d, run-other s (at + 1) o, small, lt-ltb (at + 1) (length s) (ltb-true (at + 1) (length s) (o .inside))) (ap₂ (λ (v n : ℕ). item.Number v (getD s (at + 1) 0) n) value next)
     where
       value : 0 * 10 + (getD s at 0 - 48) ≡ getD s at 0 - 48
       value = omega arith
+
+      next : at + 1 + 1 ≡ at + 2
+      next = omega arith
 
   pub last-digit-item : length s ≤ at + 1 → itemAt s at ≡ item.Cut
   unfolding itemAt runAs numberFrom

@@ -3,7 +3,7 @@ use Prim.Native.Nat.{_+_}
 use mathlib.Core.Path.{refl}
 use native.Mathlib.Omega.{arith}
 use Rattle.parser.proofs.Fields.{digit-at, other-at}
-use Rattle.duration.proofs.Looks.{look-one, look-two, within, short-one, short-two, short-absent}
+use Rattle.duration.proofs.Looks.{look-one, look-two, digit-bytes, short-one, short-two, short-absent}
 use borrow.Author.Needs.{needs}
 use Rattle.duration.proofs.short_part.Statement.{statement}
 use Rattle.duration.proofs.short_part.Tie as tie
@@ -86,7 +86,7 @@ sub-value : tie.Need-sub-value
 sub-value c =
     let x = c .before .before .before .before .before in
     let t = look-two (x .args .s .now) (x .args .at) _ _ (x .pre .1) (x .pre .0) (c .before .before .if3 .taken) in
-    omega (arith, within _ _ (t .first) .0, within _ _ (t .second) .0)
+    omega (arith, digit-bytes _ _ (t .first) .0, digit-bytes _ _ (t .second) .0)
 
 add-next-2 : tie.Need-add-next-2
 add-next-2 c =
@@ -104,7 +104,7 @@ returns-3 : tie.Need-returns-3
 returns-3 c =
     let x = c .before .before .before .before .before .before in
     let t = look-two (x .args .s .now) (x .args .at) _ _ (x .pre .1) (x .pre .0) (c .before .before .before .if3 .taken) in
-    short-two (x .args .s .now) (x .args .at) _ _ _ t (omega (arith, x .pre .1)) _ (omega (arith, within _ _ (t .first) .0, within _ _ (t .second) .0)) refl (c .look-at2 .ensures)
+    short-two (x .args .s .now) (x .args .at) _ _ _ t (omega (arith, x .pre .1)) _ (omega (arith, digit-bytes _ _ (t .first) .0, digit-bytes _ _ (t .second) .0)) refl (c .look-at2 .ensures)
 
 not-there-requires-2 : tie.Need-not-there-requires-2
 not-there-requires-2 c κs = search needs
