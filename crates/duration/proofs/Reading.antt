@@ -14,13 +14,14 @@ use Rattle.parser.proofs.General.{says-past}
 use Rattle.parser.proofs.Says.{says-map, says-verify}
 use Rattle.parser.specs.Fields.{orZero}
 use Rattle.duration.specs.Rules.{part, present, TimeParts, someTime, timeOf, durationBaseTime, durationTime}
-use Rattle.parts.specs.Items.{itemAt, here, past, partOf, absentPart, partBy, partAt}
+use Rattle.parts.specs.Items.{itemAt, here, past, partOf, absentPart, partBy, partAt, Tries}
 use Rattle.duration.specs.Items.{isCut, unlessTooBig, timeParts}
 use Rattle.duration.specs.declared.DurationTimeParts.{DurationTimeParts}
 use Rattle.parts.specs.declared.Part.{Part}
+use Rattle.parts.specs.declared.Tried.{Tried}
 use Rattle.parts.specs.declared.Item.{Item}
 use Rattle.parts.specs.declared.Item.the-variants as item
-use Rattle.parts.proofs.Items.{no-letter}
+use Rattle.parts.proofs.Items.{no-letter, tried-part, tried-item}
 use Rattle.duration.proofs.Items.{Heeds, part-heeds, optional-part, last-part, map-pick, further}
 use Rattle.duration.proofs.Laws.{clock, from-seconds, from-minutes, base-time-eager}
 
@@ -106,6 +107,29 @@ module _ (s : List ℕ) (at : ℕ) (h m x : Part) (eh : h ≡ partAt s at 72) (e
       let l : past 83 (m .next) (itemAt s (m .next)) ≤ m .next = rw ex at le in
       let none-there : x ≡ absentPart (m .next) = ex ∙ part-absent (m .next) (itemAt s (m .next)) (further 83 s (m .next) .there ∙ le-ltb _ _ l) in
       rw none-there at time-made
+
+-- the same of parts that were tried by items
+module _ (s : List ℕ) (at : ℕ) (i : Item) (h m x : Tried) (stands : i ≡ itemAt s at) (hours : Tries s at 72 i h) (minutes : Tries s (h .part .next) 77 (h .item) m) (seconds : Tries s (m .part .next) 83 (m .item) x) where
+  behind-hours : h .item ≡ itemAt s (h .part .next)
+  behind-hours = tried-item s at 72 i h hours stands
+
+  behind-minutes : m .item ≡ itemAt s (m .part .next)
+  behind-minutes = tried-item s (h .part .next) 77 (h .item) m minutes behind-hours
+
+  hour : h .part ≡ partAt s at 72
+  hour = tried-part s at 72 i h hours stands
+
+  minute : m .part ≡ partAt s (h .part .next) 77
+  minute = tried-part s (h .part .next) 77 (h .item) m minutes behind-hours
+
+  second : x .part ≡ partAt s (m .part .next) 83
+  second = tried-part s (m .part .next) 83 (m .item) x seconds behind-minutes
+
+  pub with-seconds-tried : m .part .next < x .part .next → Says durationBaseTime s at (got (record { hours = h .part .value; minutes = m .part .value; seconds = x .part .value }) (x .part .next)) false
+  with-seconds-tried = with-seconds s at (h .part) (m .part) (x .part) hour minute second
+
+  pub without-seconds-tried : x .part .next ≤ m .part .next → Says durationBaseTime s at (unlessTooBig (m .item) (timeParts at (h .part) (m .part) (absentPart (m .part .next)))) (isCut (m .item))
+  without-seconds-tried le = rw behind-minutes (without-seconds s at (h .part) (m .part) (x .part) hour minute second le)
 
 base-heeds : (s : List ℕ) (at : ℕ) → Heeds durationBaseTime s at
 unfolding durationBaseTime map verify

@@ -12,13 +12,16 @@ use Rattle.parser.specs.Reading.{Found, no, got, stop, lit, seq, opt, lack, ver
 use Rattle.parser.proofs.Says.{says-map, says-verify, says-opt, says-seq-got, says-seq-no, says-seq-stop}
 use Rattle.parser.specs.Fields.{orZero}
 use Rattle.duration.specs.Rules.{present, durationBaseTime, durationTime, partsRule, somePart, durationOf, duration}
-use Rattle.parts.specs.Items.{itemAt, here, past, partOf, absentPart, partAt}
+use Rattle.parts.specs.Items.{itemAt, here, past, partOf, absentPart, partAt, Tries}
 use Rattle.duration.specs.Items.{isCut, timeParts, behindP, recordOf, allParts}
 use Rattle.duration.specs.Looks.{longRun, noPart, Short, Starts, DateParts}
 use Rattle.duration.specs.declared.DurationTimeParts.{DurationTimeParts}
 use Rattle.duration.specs.declared.Looked.{Looked}
 use Rattle.duration.specs.declared.Start.{Start}
+use Rattle.parts.specs.declared.Item.{Item}
 use Rattle.parts.specs.declared.Part.{Part}
+use Rattle.parts.specs.declared.Tried.{Tried}
+use Rattle.parts.proofs.Items.{tried-part, tried-item}
 use Rattle.duration.proofs.Items.{Heeds, part-heeds, optional-part, map-pick, further}
 use Rattle.duration.proofs.Laws.{or-true, parts, from-time, from-days, from-weeks, from-months}
 use Rattle.duration.proofs.Looks.{look-stands, look-absent}
@@ -87,6 +90,29 @@ all-parts s at f m k =
 
 pub parts-made : (s : List ℕ) (at : ℕ) (y mo w d : Part) (f : Found DurationTimeParts) (m : Bool) (g : Found Duration) → DateParts s at y mo w d → Says durationTime s (d .next) f m → g ≡ allParts at y mo w d f → Says behindP s at g m
 parts-made s at y mo w d f m g e k eg = rw (eg, e .days, e .weeks, e .months, e .years) (all-parts s at f m (rw (e .days, e .weeks, e .months, e .years) at k))
+
+-- ---- the parts in front of the time, as they were tried by items
+
+module _ (s : List ℕ) (at : ℕ) (i : Item) (y mo w d : Tried) (stands : i ≡ itemAt s at) (years : Tries s at 89 i y) (months : Tries s (y .part .next) 77 (y .item) mo) (weeks : Tries s (mo .part .next) 87 (mo .item) w) (days : Tries s (w .part .next) 68 (w .item) d) where
+  behind-years : y .item ≡ itemAt s (y .part .next)
+  behind-years = tried-item s at 89 i y years stands
+
+  behind-months : mo .item ≡ itemAt s (mo .part .next)
+  behind-months = tried-item s (y .part .next) 77 (y .item) mo months behind-years
+
+  behind-weeks : w .item ≡ itemAt s (w .part .next)
+  behind-weeks = tried-item s (mo .part .next) 87 (mo .item) w weeks behind-months
+
+  pub behind-days : d .item ≡ itemAt s (d .part .next)
+  behind-days = tried-item s (w .part .next) 68 (w .item) d days behind-weeks
+
+  pub date-tried : DateParts s at (y .part) (mo .part) (w .part) (d .part)
+  date-tried = record {
+    years = tried-part s at 89 i y years stands;
+    months = tried-part s (y .part .next) 77 (y .item) mo months behind-years;
+    weeks = tried-part s (mo .part .next) 87 (mo .item) w weeks behind-months;
+    days = tried-part s (w .part .next) 68 (w .item) d days behind-weeks;
+  }
 
 -- ---- the same by looks
 

@@ -5,9 +5,6 @@ use borrow.Author.Needs.{needs}
 use Rattle.duration.proofs.date_parts.Statement.{statement}
 use Rattle.duration.proofs.date_parts.Tie as tie
 
-record-of-requires : tie.Need-record-of-requires
-record-of-requires c κs = search needs
-
 returns : tie.Need-returns
 returns c = (rw (lt-ltb _ _ (c .before .if1 .taken), c .record-of .ensures), refl)
 
@@ -18,4 +15,5 @@ returns-3 : tie.Need-returns-3
 returns-3 c = (rw (le-ltb _ _ (c .before .if1 .left)), sym (c .if2 .left))
 
 pub date-parts-spec : {M : Type 1} → statement M
-date-parts-spec = tie.close (tie.spec record-of-requires returns returns-2 returns-3)
+date-parts-spec = tie.close (tie.spec
+    (λ c κs. search needs) returns returns-2 returns-3)

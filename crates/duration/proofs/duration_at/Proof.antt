@@ -5,21 +5,6 @@ use borrow.Author.Needs.{needs}
 use Rattle.duration.proofs.duration_at.Statement.{statement}
 use Rattle.duration.proofs.duration_at.Tie as tie
 
-literal-requires : tie.Need-literal-requires
-literal-requires c κs = search needs
-
-enum-known-mark : tie.Need-enum-known-mark
-enum-known-mark c = search needs
-
-duration-parts-requires : tie.Need-duration-parts-requires
-duration-parts-requires c κs = search needs
-
-enum-told : tie.Need-enum-told
-enum-told c = search needs
-
-enum-told-2 : tie.Need-enum-told-2
-enum-told-2 c = search needs
-
 returns : tie.Need-returns
 returns c =
     let a = c .before .before .before .before .before .before .args in
@@ -39,11 +24,7 @@ pub duration-at-spec : {M : Type 1} → statement M
 duration-at-spec =
     tie.close
     (tie.spec
-    literal-requires
-    enum-known-mark
-    duration-parts-requires
-    enum-told
-    enum-told-2
+    (λ c κs. search needs) (λ c. search needs) (λ c κs. search needs) (λ c. search needs) (λ c. search needs)
     returns
     returns-2
     returns-3)

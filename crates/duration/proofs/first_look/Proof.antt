@@ -10,11 +10,6 @@ returns c =
     let a = c .before .before .args in
     no-room (a .s .now) (a .at) (omega arith)
 
-look-at-requires : tie.Need-look-at-requires
-look-at-requires c κs = search needs
-
-returns-2 : tie.Need-returns-2
-returns-2 c = search needs
-
 pub first-look-spec : {M : Type 1} → statement M
-first-look-spec = tie.close (tie.spec returns look-at-requires returns-2)
+first-look-spec = tie.close (tie.spec
+    returns (λ c κs. search needs) (λ c. search needs))

@@ -18,9 +18,6 @@ returns-2 c =
     let x = c .before .before in
     rw (end-item (x .args .s .now) (x .args .at) (omega arith))
 
-shared-slice-read-first : tie.Need-shared-slice-read-first
-shared-slice-read-first c = search needs
-
 returns-3 : tie.Need-returns-3
 returns-3 c =
     let x = c .before .before .before .before in
@@ -37,4 +34,5 @@ returns-5 c =
     rw (look-open (x .args .s .now) (x .args .at) _ (x .pre .0) (c .before .before .before .before .if1 .left) (digit-at (x .args .s .now) (x .args .at) (omega arith) (omega arith) (omega arith)))
 
 pub is-open-spec : {M : Type 1} → statement M
-is-open-spec = tie.close (tie.spec returns returns-2 shared-slice-read-first returns-3 returns-4 returns-5)
+is-open-spec = tie.close (tie.spec
+    returns returns-2 (λ c. search needs) returns-3 returns-4 returns-5)

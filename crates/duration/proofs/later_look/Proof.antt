@@ -7,9 +7,6 @@ use borrow.Author.Needs.{needs}
 use Rattle.duration.proofs.later_look.Statement.{statement}
 use Rattle.duration.proofs.later_look.Tie as tie
 
-shared-slice-read-first : tie.Need-shared-slice-read-first
-shared-slice-read-first c = search needs
-
 returns : tie.Need-returns
 returns c =
     let a = c .before .before .args in
@@ -20,33 +17,15 @@ returns-2 c =
     let a = c .before .before .before .args in
     no-digit (a .s .now) (a .at) (above-digits (a .s .now) (a .at) (omega arith) (omega arith))
 
-add-second : tie.Need-add-second
-add-second c = search needs
-
-shared-slice-read-second : tie.Need-shared-slice-read-second
-shared-slice-read-second c = search needs
-
-cast-result : tie.Need-cast-result
-cast-result c = search needs
-
 returns-3 : tie.Need-returns-3
 returns-3 c =
     let a = c .before .before .before .before .before .args in
     one-digit (a .s .now) (a .at) (omega arith) (below-digits (a .s .now) (a .at + 1) (omega arith) (omega arith))
 
-sub-if4 : tie.Need-sub-if4
-sub-if4 c = search needs
-
 returns-4 : tie.Need-returns-4
 returns-4 c =
     let a = c .before .before .before .before .before .before .args in
     no-letter-left (a .s .now) (a .at) (digit-at (a .s .now) (a .at) (omega arith) (omega arith) (omega arith)) (digit-at (a .s .now) (a .at + 1) (omega arith) (omega arith) (omega (arith, c .before .before .before .before .before .before .pre))) (omega arith)
-
-add-third : tie.Need-add-third
-add-third c = search needs
-
-shared-slice-read-third : tie.Need-shared-slice-read-third
-shared-slice-read-third c = search needs
 
 cast-result-2 : tie.Need-cast-result-2
 cast-result-2 c = omega (arith, c .before .shared-slice-known3 .given (c .before .before .before .before .before .before .before .before .args .at + 2))
@@ -58,12 +37,6 @@ returns-5 : tie.Need-returns-5
 returns-5 c =
     let a = c .before .before .before .before .before .before .before .before .args in
     two-digits (a .s .now) (a .at) (digit-at (a .s .now) (a .at) (omega arith) (omega arith) (omega arith)) (digit-at (a .s .now) (a .at + 1) (omega arith) (omega arith) (omega (arith, c .before .before .before .before .before .before .before .before .pre))) (omega (arith, c .before .shared-slice-known3 .given (a .at + 2))) (above-digits (a .s .now) (a .at + 2) (omega arith) (omega arith))
-
-cast-result-3 : tie.Need-cast-result-3
-cast-result-3 c = search needs
-
-add-result-2 : tie.Need-add-result-2
-add-result-2 c = search needs
 
 returns-6 : tie.Need-returns-6
 returns-6 c =
@@ -79,21 +52,17 @@ pub later-look-spec : {M : Type 1} → statement M
 later-look-spec =
     tie.close
     (tie.spec
-    shared-slice-read-first
+    (λ c. search needs)
     returns
     returns-2
-    add-second
-    shared-slice-read-second
-    cast-result
+    (λ c. search needs) (λ c. search needs) (λ c. search needs)
     returns-3
-    sub-if4
+    (λ c. search needs)
     returns-4
-    add-third
-    shared-slice-read-third
+    (λ c. search needs) (λ c. search needs)
     cast-result-2
     add-result
     returns-5
-    cast-result-3
-    add-result-2
+    (λ c. search needs) (λ c. search needs)
     returns-6
     returns-7)

@@ -6,11 +6,6 @@ use Rattle.duration.proofs.time_item.Tie as tie
 returns : tie.Need-returns
 returns c = rw (c .if1 .taken) (c .before .before .pre)
 
-duration-item-requires : tie.Need-duration-item-requires
-duration-item-requires c κs = search needs
-
-returns-2 : tie.Need-returns-2
-returns-2 c = search needs
-
 pub time-item-spec : {M : Type 1} → statement M
-time-item-spec = tie.close (tie.spec returns duration-item-requires returns-2)
+time-item-spec = tie.close (tie.spec
+    returns (λ c κs. search needs) (λ c. search needs))

@@ -11,15 +11,6 @@ returns c =
     let x = c .before .before in
     starts-at-end (x .args .s .now) (x .args .at) _ _ (omega arith) (x .pre) refl refl
 
-shared-slice-read-if2 : tie.Need-shared-slice-read-if2
-shared-slice-read-if2 c = search needs
-
-add-next : tie.Need-add-next
-add-next c = search needs
-
-first-look-requires : tie.Need-first-look-requires
-first-look-requires c κs = search needs
-
 returns-2 : tie.Need-returns-2
 returns-2 c =
     let x = c .before .before .before .before .before in
@@ -33,4 +24,5 @@ returns-3 c =
 pub time-start-spec : {M : Type 1} → statement M
 time-start-spec =
     tie.close
-    (tie.spec returns shared-slice-read-if2 add-next first-look-requires returns-2 returns-3)
+    (tie.spec
+    returns (λ c. search needs) (λ c. search needs) (λ c κs. search needs) returns-2 returns-3)

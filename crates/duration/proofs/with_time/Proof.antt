@@ -6,54 +6,24 @@ use borrow.Author.Needs.{needs}
 use Rattle.duration.proofs.with_time.Statement.{statement}
 use Rattle.duration.proofs.with_time.Tie as tie
 
-time-start-requires : tie.Need-time-start-requires
-time-start-requires c κs = search needs
-
 is-open-requires : tie.Need-is-open-requires
 is-open-requires c κs =
     let st = c .before .before .time-start .ensures in
     (rw (c .if1 .taken) at (st .behind), (λ e. omega arith))
-
-date-parts-requires : tie.Need-date-parts-requires
-date-parts-requires c κs = search needs
 
 returns : tie.Need-returns
 returns c =
     let x = c .before .before .before .before .before .before in
     rw (c .date-parts .ensures .1 ∙ c .before .is-open .ensures) (without-time (x .args .s .now) _ _ _ _ _ _ (x .pre .1) _ (c .before .before .before .before .time-start .ensures) _ (c .before .before .if1 .taken) (c .date-parts .ensures .0))
 
-short-part-requires : tie.Need-short-part-requires
-short-part-requires c κs = search needs
-
-short-part-requires-2 : tie.Need-short-part-requires-2
-short-part-requires-2 c κs = search needs
-
-short-part-requires-3 : tie.Need-short-part-requires-3
-short-part-requires-3 c κs = search needs
-
-record-of-requires : tie.Need-record-of-requires
-record-of-requires c κs = search needs
-
 returns-2 : tie.Need-returns-2
 returns-2 c =
     let x = c .before .before .before .before .before .before .before .before .before .before .before .before in
     with-second (x .args .s .now) _ _ _ _ _ _ (x .pre .1) _ (c .before .before .before .before .before .before .before .before .before .before .time-start .ensures) _ _ _ (c .before .before .before .before .before .before .before .short-part .ensures) (c .before .before .before .before .before .short-part2 .ensures) (c .before .before .before .short-part3 .ensures) _ (c .before .if2 .taken) (c .record-of .ensures)
 
-long-parts-requires : tie.Need-long-parts-requires
-long-parts-requires c κs = search needs
-
-returns-3 : tie.Need-returns-3
-returns-3 c = search needs
-
 is-open-requires-2 : tie.Need-is-open-requires-2
 is-open-requires-2 c κs =
     (c .before .before .before .before .before .before .short-part2 .ensures .behind, c .if3 .left)
-
-some-time-requires : tie.Need-some-time-requires
-some-time-requires c κs = search needs
-
-all-parts-requires : tie.Need-all-parts-requires
-all-parts-requires c κs = search needs
 
 returns-4 : tie.Need-returns-4
 returns-4 c =
@@ -66,18 +36,13 @@ pub with-time-spec : {M : Type 1} → statement M
 with-time-spec =
     tie.close
     (tie.spec
-    time-start-requires
+    (λ c κs. search needs)
     is-open-requires
-    date-parts-requires
+    (λ c κs. search needs)
     returns
-    short-part-requires
-    short-part-requires-2
-    short-part-requires-3
-    record-of-requires
+    (λ c κs. search needs) (λ c κs. search needs) (λ c κs. search needs) (λ c κs. search needs)
     returns-2
-    long-parts-requires
-    returns-3
+    (λ c κs. search needs) (λ c. search needs)
     is-open-requires-2
-    some-time-requires
-    all-parts-requires
+    (λ c κs. search needs) (λ c κs. search needs)
     returns-4)

@@ -6,12 +6,6 @@ use Rattle.parts.proofs.Items.{item-is, run-inside}
 use Rattle.parts.proofs.duration_item.Statement.{statement}
 use Rattle.parts.proofs.duration_item.Tie as tie
 
-take-digits-requires : tie.Need-take-digits-requires
-take-digits-requires c κs = search needs
-
-enum-known-found : tie.Need-enum-known-found
-enum-known-found c = search needs
-
 returns : tie.Need-returns
 returns c =
     let a = c .before .before .before .before .before .before .args in
@@ -29,15 +23,6 @@ add-t11 c =
     let a = c .before .before .before .before .before .before .before .args in
     let h = rw (c .before .before .before .found .given .1) at (c .before .before .before .before .before .take-digits .ensures) in
     omega (arith, run-inside (a .s .now) (a .at) _ _ (sym (h .found)) (sym (h .more) ∙ c .before .if1 .left))
-
-enum-told : tie.Need-enum-told
-enum-told c = search needs
-
-enum-told-2 : tie.Need-enum-told-2
-enum-told-2 c = search needs
-
-enum-told-3 : tie.Need-enum-told-3
-enum-told-3 c = search needs
 
 returns-2 : tie.Need-returns-2
 returns-2 c =
@@ -64,14 +49,11 @@ pub duration-item-spec : {M : Type 1} → statement M
 duration-item-spec =
     tie.close
     (tie.spec
-    take-digits-requires
-    enum-known-found
+    (λ c κs. search needs) (λ c. search needs)
     returns
     shared-slice-read-t10
     add-t11
-    enum-told
-    enum-told-2
-    enum-told-3
+    (λ c. search needs) (λ c. search needs) (λ c. search needs)
     returns-2
     returns-3
     returns-4

@@ -6,35 +6,8 @@ use Rattle.parts.proofs.Items.{tries-there, tries-absent}
 use Rattle.parts.proofs.duration_part.Statement.{statement}
 use Rattle.parts.proofs.duration_part.Tie as tie
 
-enum-known-item : tie.Need-enum-known-item
-enum-known-item c = search needs
-
-duration-item-requires : tie.Need-duration-item-requires
-duration-item-requires c κs = search needs
-
 returns : tie.Need-returns
 returns c = tries-there _ _ _ _ _ _ _ _ (c .before .before .before .item .given .1) (c .before .if1 .taken) refl (c .duration-item .ensures)
-
-not-there-requires : tie.Need-not-there-requires
-not-there-requires c κs = search needs
-
-enum-told : tie.Need-enum-told
-enum-told c = search needs
-
-not-there-requires-2 : tie.Need-not-there-requires-2
-not-there-requires-2 c κs = search needs
-
-enum-told-2 : tie.Need-enum-told-2
-enum-told-2 c = search needs
-
-not-there-requires-3 : tie.Need-not-there-requires-3
-not-there-requires-3 c κs = search needs
-
-enum-told-3 : tie.Need-enum-told-3
-enum-told-3 c = search needs
-
-not-there-requires-4 : tie.Need-not-there-requires-4
-not-there-requires-4 c κs = search needs
 
 returns-2 : tie.Need-returns-2
 returns-2 c = tries-absent _ _ _ _ _ (rw (c .before .before .before .item .given .1, ne-eqb _ _ (c .before .if1 .left))) (rw (c .before .before .before .item .given .1, ne-eqb _ _ (c .before .if1 .left))) (c .not-there .ensures .0, c .not-there .ensures .1 ∙ sym (c .before .before .before .item .given .1))
@@ -52,16 +25,9 @@ pub duration-part-spec : {M : Type 1} → statement M
 duration-part-spec =
     tie.close
     (tie.spec
-    enum-known-item
-    duration-item-requires
+    (λ c. search needs) (λ c κs. search needs)
     returns
-    not-there-requires
-    enum-told
-    not-there-requires-2
-    enum-told-2
-    not-there-requires-3
-    enum-told-3
-    not-there-requires-4
+    (λ c κs. search needs) (λ c. search needs) (λ c κs. search needs) (λ c. search needs) (λ c κs. search needs) (λ c. search needs) (λ c κs. search needs)
     returns-2
     returns-3
     returns-4
