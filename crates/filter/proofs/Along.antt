@@ -7,11 +7,12 @@ use native.Mathlib.Omega.{arith}
 use lib.ListN.{length, take}
 use lib.Seq.{take-all}
 use Rattle.lines.specs.Lines.{between}
+use Rattle.lines.proofs.Held.{between-then}
 use Rattle.text.proofs.Laws.{puts-clips}
 use Rattle.stream.specs.declared.Program.{Program}
 use Rattle.stream.specs.declared.Reached.{Reached}
 use Rattle.stream.specs.Stream.{Goes, Steps}
-use Rattle.stream.proofs.Laws.{between-then, nothing-goes, goes-then}
+use Rattle.stream.proofs.Laws.{nothing-goes, goes-then}
 use Rattle.filter.specs.Served.{Handed}
 
 module _ (p : Program) (held : ℕ) (block kept₀ out₀ : List ℕ) where

@@ -1,7 +1,6 @@
 // Runs a program over standard input and standard output, and tells what failed. All programs that answer lines run here.
 //
-// What has arrived is answered before the program waits for more. A program has no exit status of its own: where a read or a write fails it
-// writes a line to standard error, which names what failed and why, and the byte `1` to descriptor 3, of which the launcher makes status 1.
+// What has arrived is answered before the program waits for more.
 ghost use Prim.Native.Nat.{_≤_};
 ghost use lib.ListN.{length};
 ghost use Rattle.filter.specs.Served.{Serves};
@@ -9,9 +8,7 @@ use libc::STDIN_FILENO;
 use libc::STDOUT_FILENO;
 use stream::LIMIT;
 use stream::Program;
-use text::put;
-
-const STATUS_FILENO: i32 = 3;
+use telling::tell;
 
 // What a block leaves: how many bytes are held; or a write that failed.
 enum Served {
@@ -23,15 +20,6 @@ enum Served {
 enum Turn {
     On { held: usize },
     Done,
-}
-
-// Tells of a program, by its name, what failed and why: at one go, since a call between would leave another reason. A longer name is cut.
-fn tell(name: &[u8], what: &[u8]) {
-    let mut line = [0u8; 64];
-    let next = put(&mut line, 0, name);
-    let next = put(&mut line, next, what);
-    os::fail(&line[..next]);
-    libc::write(STATUS_FILENO, b"1");
 }
 
 // Hands the responses to the lines that a block ends to the write, step by step.

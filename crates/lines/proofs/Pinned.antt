@@ -1,6 +1,6 @@
 -- The definition of lines, pinned: the lines and the ends between them are the input again, and there are as many as there are ends, and
 -- one more for a last piece that is not empty.
-use Prim.Native.Nat.{ℕ, _+_}
+use Prim.Native.Nat.{ℕ, suc, _+_, _≤_}
 use mathlib.Core.Bool.{Bool, true, false}
 use mathlib.Core.List.{List, [], _∷_, _++_, append-assoc, append-nil}
 use mathlib.Core.Path.{_≡_, refl, sym, ap, _∙_}
@@ -56,6 +56,18 @@ finished-tens (b ∷ s) = step (eqb b 10) (finished-tens s)
     step : (t : Bool) → length (split s .finished) ≡ tens s → length (pick t (after [] (split s)) (onto (b ∷ []) (split s)) .finished) ≡ pick t (1 + tens s) (tens s)
     step true h = omega arith
     step false h = onto-length b (split s .finished) (split s .rest) ∙ h
+
+tens-few : (s : List ℕ) → tens s ≤ length s
+tens-few [] = omega arith
+tens-few (b ∷ s) = step (eqb b 10) (tens-few s)
+  where
+    step : (t : Bool) → tens s ≤ length s → pick t (1 + tens s) (tens s) ≤ suc (length s)
+    step true h = omega arith
+    step false h = omega arith
+
+-- so no more lines are finished than there are bytes
+pub finished-few : (s : List ℕ) → length (split s .finished) ≤ length s
+finished-few s = rw (finished-tens s) (tens-few s)
 
 last-length : (r : List ℕ) → length (lastLine r) ≡ lastPiece r
 last-length [] = refl

@@ -3,6 +3,7 @@
 // A program holds the beginning of the line that no byte 10 has ended yet in a buffer of its own. It gives each block to `take_line`, from the
 // first byte on and then from the place behind what was taken, and gets a line at a time. That this gives each line of the input once and in
 // order, however the input is cut into blocks, is `took-line` of `proofs/Laws.antt`.
+ghost use Prim.Native.Nat.{min};
 ghost use mathlib.Core.Path.{_≡_};
 ghost use Rattle.lines.specs.Lines.{placeOf, Takes};
 
@@ -17,6 +18,13 @@ pub struct Taken {
     pub held: usize,
     pub used: usize,
     pub ended: bool,
+}
+
+// The lesser of two numbers: of a count that is told and what a buffer holds.
+pub fn lesser(a: usize, b: usize) -> usize
+    ensures { λ r. ⌜ r ≡ min a b ⌝ }
+{
+    if a < b { a } else { b }
 }
 
 // The place of the first byte `byte` at or after `at`. Past the end there is none.

@@ -1,18 +1,16 @@
 -- What is put for all bytes so far: a line that ends adds its response, and a line that goes on adds nothing.
-use Prim.Native.Nat.{ℕ, zero, suc, _+_, _-_, _≤_, _<_, min}
-use mathlib.Core.Bool.{Bool, true, false}
+use Prim.Native.Nat.{ℕ, _+_, _-_, _≤_, _<_, min}
+use mathlib.Core.Bool.{true, false}
 use mathlib.Core.List.{List, [], _∷_, _++_, append-assoc, append-nil}
 use mathlib.Core.Path.{_≡_, refl, sym, ap, _∙_}
-use native.Mathlib.Nat.{not-suc-le-zero}
 use native.Mathlib.Omega.{arith}
-use lib.Dec.{leb}
-use lib.ListN.{length, take, drop}
-use lib.Seq.{drop-drop, take-add, take-nil, take-all, take-length, length-take-le}
-use borrow.Author.Tests.{leb-true, leb-false}
-use Rattle.lines.specs.Lines.{split, lines, lastLine, clip, between, Holds, GoesOn}
+use lib.ListN.{length, take}
+use lib.Seq.{take-nil}
+use Rattle.lines.specs.Lines.{split, lines, clip, between, Holds, GoesOn}
 use Rattle.lines.specs.Lines.{Takes}
 use Rattle.lines.specs.declared.Taken.{Taken}
 use Rattle.lines.proofs.Laws.{took-line, taken-room, taken-moves}
+use Rattle.lines.proofs.Held.{held-whole, held-nothing, held-some, no-last, last}
 use Rattle.text.proofs.Laws.{puts-nothing}
 use Rattle.reply.specs.Line.{Gives}
 use Rattle.reply.proofs.Asked.{answers-clip}
@@ -55,11 +53,6 @@ responses-then p (k ∷ ls) l t u f r =
       text = rw (f .text) (append-assoc (f .first) (f .next) u);
     }
 
-clipped-nothing : (limit : ℕ) (l : List ℕ) → 1 ≤ limit → clip limit l ≡ [] → l ≡ []
-clipped-nothing zero l h e = absurd (not-suc-le-zero h)
-clipped-nothing (suc n) [] h e = refl
-clipped-nothing (suc n) (b ∷ l) h e = let z : _≡_ {A = ℕ} (suc (length (take n l))) 0 = ap length e in absurd (omega arith)
-
 module _ (p : Program) (limit : ℕ) where
   -- a line that goes on
   pub open-goes : (more old new : List ℕ) → ((bytes : List ℕ) → Holds limit bytes old → GoesOn false limit bytes (bytes ++ more) new) → Goes p limit more [] old new
@@ -92,25 +85,12 @@ module _ (p : Program) (limit : ℕ) where
 
   -- the end: nothing is held where the rest is empty, and else the first bytes of the last line
   pub ends-empty : (old : List ℕ) → old ≡ [] → 1024 ≤ limit → (bytes put : List ℕ) → After p limit bytes put old → Responses p (lines bytes) (put ++ [])
-  unfolding lines
-  ends-empty old e k bytes put a =
-      let none = clipped-nothing limit (split bytes .rest) (omega arith) (sym (a .holds) ∙ e) in
-      rw (none, append-nil (split bytes .finished), append-nil put) (a .responses)
+  ends-empty old e k bytes put a = rw (no-last limit bytes old (a .holds) (omega arith) e, append-nil put) (a .responses)
 
   pub ends-last : (old text : List ℕ) → 1 ≤ length old → Responds p old text → 1024 ≤ limit → (bytes put : List ℕ) → After p limit bytes put old → Responses p (lines bytes) (put ++ text)
-  unfolding lines
-  ends-last old text h r k bytes put a = step (split bytes .rest) refl
-    where
-      step : (rest : List ℕ) → split bytes .rest ≡ rest → Responses p (split bytes .finished ++ lastLine rest) (put ++ text)
-      step [] e = let none : old ≡ [] = a .holds ∙ rw (e, take-nil limit) in let z : length old ≡ 0 = ap length none in absurd (omega arith)
-      step (b ∷ rest) e = responses-then p (split bytes .finished) (b ∷ rest) put text (a .responses) (responds-clip p limit (b ∷ rest) text k (rw (← e, ← a .holds) r))
-
--- two parts of a block, one behind the other
-pub between-then : (f u v : ℕ) (s : List ℕ) → f ≤ u → u ≤ v → between f u s ++ between u v s ≡ between f v s
-between-then f u v s h k =
-    let there : f + (u - f) ≡ u = omega arith in
-    let both : v - f ≡ (u - f) + (v - u) = omega arith in
-    sym (rw both (take-add (u - f) (v - u) (drop f s) ∙ rw (drop-drop (u - f) f s, there)))
+  ends-last old text h r k bytes put a =
+      let l = last limit bytes old (a .holds) h in
+      rw (l .lines) (responses-then p (split bytes .finished) (l .line) put text (a .responses) (responds-clip p limit (l .line) text k (rw (l .kept) at r)))
 
 -- One line: it ends and has a response, or goes on.
 module _ (p : Program) {held from at : ℕ} {block kept new out : List ℕ} {r : Taken} (takes : Takes held block from kept new r) (room : held ≤ length kept) where
@@ -139,29 +119,9 @@ module _ (p : Program) {held from at : ℕ} {block kept new out : List ℕ} {r :
         moves = taken-moves takes;
       }
 
-nonzero : (n : ℕ) → (n ≡ 0 → ⊥) → 1 ≤ n
-nonzero zero e = absurd (e refl)
-nonzero (suc n) e = omega arith
-
--- A count past the end of the buffer is its end.
-pub take-lesser : (held : ℕ) (kept : List ℕ) → take (min held (length kept)) kept ≡ take held kept
-take-lesser held kept = step (leb held (length kept)) refl
-  where
-    step : (b : Bool) → leb held (length kept) ≡ b → take (min held (length kept)) kept ≡ take held kept
-    step true e = let same : min held (length kept) ≡ held = omega (arith, leb-true held (length kept) e) in rw same
-    step false e =
-        let past : length kept < held = omega (arith, leb-false held (length kept) e) in
-        let same : min held (length kept) ≡ length kept = omega arith in
-        rw (same, take-length kept) (sym (take-all held kept (omega arith)))
-
 module _ (p : Program) {held n : ℕ} {kept out : List ℕ} (clamped : n ≡ min held (length kept)) where
   pub finishes-empty : n ≡ 0 → Finishes p held kept out out 0
-  finishes-empty e =
-      let none : take held kept ≡ [] = sym (take-lesser held kept) ∙ rw (← clamped, e) in
-      record { text = []; responses = ends-empty p (length kept) (take held kept) none; puts = puts-nothing out 0 }
+  finishes-empty e = record { text = []; responses = ends-empty p (length kept) (take held kept) (held-nothing held kept clamped e); puts = puts-nothing out 0 }
 
   pub finishes-last : {out′ : List ℕ} {next : ℕ} → (n ≡ 0 → ⊥) → Gives (Responds p (take n kept)) out 0 out′ next → Finishes p held kept out out′ next
-  finishes-last e g =
-      let whole : take n kept ≡ take held kept = rw clamped (take-lesser held kept) in
-      let some : 1 ≤ length (take held kept) = rw (← whole, length-take-le n kept (omega arith)) (omega (arith, nonzero n e)) in
-      record { text = g .text; responses = ends-last p (length kept) (take held kept) (g .text) some (rw whole at (g .answer)); puts = g .puts }
+  finishes-last e g = record { text = g .text; responses = ends-last p (length kept) (take held kept) (g .text) (held-some held kept clamped e) (rw (held-whole held kept clamped) at (g .answer)); puts = g .puts }

@@ -9,12 +9,13 @@ use lib.Dec.{leb}
 use lib.ListN.{length, take, length-append}
 use borrow.Author.Tests.{leb-true, leb-false}
 use Rattle.lines.specs.Lines.{between}
+use Rattle.lines.proofs.Held.{between-then, take-lesser}
 use Rattle.text.specs.Text.{Puts}
 use Rattle.text.proofs.Laws.{puts-nothing, then-puts, puts-fits, puts-clips}
 use Rattle.stream.specs.declared.Program.{Program}
 use Rattle.stream.specs.declared.Reached.{Reached}
 use Rattle.stream.specs.Stream.{Goes, One, Steps}
-use Rattle.stream.proofs.Laws.{between-then, nothing-goes, goes-then, take-lesser}
+use Rattle.stream.proofs.Laws.{nothing-goes, goes-then}
 
 later : (f u a : ℕ) → f ≤ u → (u ≡ f → a ≡ 0) → 1 ≤ a → f < u
 later f u a h e k = step (leb u f) refl

@@ -3,11 +3,11 @@
 // A program is a value, and `respond` puts its response to a line. Whoever reads an input block by block gives each block to `step`, which puts
 // the responses of the lines that the block ends, and at the end of the input calls `finish`. What was put then, one behind the other, is the
 // responses to the lines of all bytes so far, in order, each once.
-ghost use Prim.Native.Nat.{_+_, _≤_, min};
-ghost use mathlib.Core.Path.{_≡_};
+ghost use Prim.Native.Nat.{_+_, _≤_};
 ghost use lib.ListN.{length};
 ghost use Rattle.reply.specs.Line.{Gives};
 ghost use Rattle.stream.specs.Stream.{Responds, One, Steps, Finishes};
+use lines::lesser;
 
 pub enum Program {
     Answers,
@@ -43,12 +43,6 @@ pub fn respond(program: Program, line: &[u8], out: &mut [u8], at: usize) -> usiz
         Program::Why => faults::why_line(line, false, out, at),
         Program::WhyShow => faults::why_line(line, true, out, at),
     }
-}
-
-fn lesser(a: usize, b: usize) -> usize
-    ensures { λ r. ⌜ r ≡ min a b ⌝ }
-{
-    if a < b { a } else { b }
 }
 
 // One line: takes it, or the beginning of it, and puts its response.

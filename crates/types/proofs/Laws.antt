@@ -12,7 +12,7 @@ use Rattle.types.specs.declared.MadeOffset.the-variants.{Made, Outside}
 use Rattle.types.specs.declared.Refusal.{Refusal}
 use Rattle.types.specs.declared.Refusal.the-variants.{NoForm, TooBig, LeftOver}
 use Rattle.types.specs.Numbers.{numberOf}
-use Rattle.types.specs.Sums.{and, withSign, signedOffset, made, pickMade, minutesInAll, betweenTheEnds, inRange, sameSign, secondsOf, largest, sumOrOver, orOver, plus}
+use Rattle.types.specs.Sums.{and, withSign, signedOffset, made, pickMade, minutesInAll, betweenTheEnds, inRange, sameSign, secondsOf, largest, sumOrOver, orOver, plus, both}
 
 neg-times : (n : ℕ) → negℤ (pos n) *ℤ pos 60 ≡ negℤ (pos (n * 60))
 neg-times zero = refl
@@ -111,3 +111,11 @@ then-plus {a = a} b e f = record { is = f ∙ rw (e .is) (go (leb a largest) ref
     go : (t : Bool) → leb a largest ≡ t → plus (sumOrOver t a) b ≡ orOver (a + b)
     go true e = refl
     go false e = sym (rw (lt-leb (a + b) largest (omega (arith, leb-false a largest e))))
+
+-- two sums together come to what both come to
+pub both-come : {r p q : InSeconds} {a b : ℕ} → ComesTo p a → ComesTo q b → r ≡ both p q → ComesTo r (a + b)
+both-come {a = a} {b = b} c d f = record { is = f ∙ rw (c .is, d .is) (go (leb b largest) refl) }
+  where
+    go : (t : Bool) → leb b largest ≡ t → both (orOver a) (sumOrOver t b) ≡ orOver (a + b)
+    go true e = then-plus b (record { is = refl }) refl .is
+    go false e = sym (rw (lt-leb (a + b) largest (omega (arith, leb-false b largest e))))

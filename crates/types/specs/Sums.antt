@@ -89,6 +89,11 @@ abbrev pub plus : InSeconds → ℕ → InSeconds
 plus (Sum a) b = orOver (a + b)
 plus Over b = Over
 
+-- two sums together
+abbrev pub both : InSeconds → InSeconds → InSeconds
+both a (Sum b) = plus a b
+both a Over = Over
+
 -- "`has_time` is true exactly when days, hours, minutes and seconds are all above 0"
 unfoldable pub hasTime : Duration → Bool
 hasTime d = and (ltb 0 (d .days)) (and (ltb 0 (d .hours)) (and (ltb 0 (d .minutes)) (ltb 0 (d .seconds))))

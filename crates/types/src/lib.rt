@@ -1,7 +1,7 @@
 // The records that the readers make, the refusals and the verdict, and the small sums over them (types.rs).
 ghost use mathlib.Core.Path.{_≡_};
 ghost use Prim.Native.Nat.{_*_, _<_};
-ghost use Rattle.types.specs.Sums.{withSign, minutesInAll, inRange, made, plus, inSeconds, isZero, hasTime};
+ghost use Rattle.types.specs.Sums.{withSign, minutesInAll, inRange, made, plus, both, inSeconds, isZero, hasTime};
 ghost use Rattle.types.specs.Numbers.{sumNumber};
 
 // Whether a longer input could still get another answer.
@@ -244,6 +244,16 @@ impl InSeconds {
                 }
                 InSeconds::Sum(sum + n * unit)
             }
+            InSeconds::Over => InSeconds::Over,
+        }
+    }
+
+    // Both together: exact, or refused where one was, or where they are more than 64 bits hold.
+    pub fn and(self, more: InSeconds) -> InSeconds
+        ensures { λ r. ⌜ r ≡ both self more ⌝ }
+    {
+        match more {
+            InSeconds::Sum(n) => self.plus(n, 1),
             InSeconds::Over => InSeconds::Over,
         }
     }

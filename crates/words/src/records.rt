@@ -125,7 +125,7 @@ pub fn date(v: Date) -> [Word; 9]
 }
 
 // The seconds in all, or over
-fn seconds_word(v: InSeconds) -> Word
+pub fn seconds_word(v: InSeconds) -> Word
     ensures { λ r. ⌜ r ≡ secondsWord v ⌝ }
 {
     match v {

@@ -5,8 +5,8 @@ use borrow.Author.Needs.{needs}
 use lib.ListN.{length}
 use lib.Seq.{length-take-le}
 use Rattle.text.proofs.Laws.{then-puts, puts-within}
-use Rattle.filter.proofs.tell.Statement.{statement}
-use Rattle.filter.proofs.tell.Tie as tie
+use Rattle.telling.proofs.tell.Statement.{statement}
+use Rattle.telling.proofs.tell.Tie as tie
 
 within : (c : tie.After-put2) → c .put2 .result ≤ length (c .put2 .last .0)
 within c = puts-within (then-puts (c .before .before .before .put .ensures) (c .put2 .ensures))

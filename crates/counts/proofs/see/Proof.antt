@@ -1,0 +1,37 @@
+-- What the line names is what is asked of its text.
+use Prim.Native.Nat.{_-_, _≤_}
+use mathlib.Core.Path.{sym, _∙_}
+use native.Mathlib.Omega.{arith}
+use borrow.Author.Needs.{needs}
+use lib.ListN.{length, drop, length-drop}
+use lib.Seq.{take-all}
+use Rattle.reply.specs.Line.{plainHead}
+use Rattle.reply.proofs.Asked.{names-long-in}
+use Rattle.counts.specs.Counts.{lineOf}
+use Rattle.counts.proofs.see.Statement.{statement}
+use Rattle.counts.proofs.see.Tie as tie
+
+long : (c : tie.After-row-of) → 2 ≤ length (c .before .before .before .before .before .before .args .line .now)
+long c = names-long-in plainHead _ _ (sym (c .before .before .before .before .plain-question .ensures) ∙ c .before .before .asked .given .1)
+
+returns : tie.Need-returns
+unfolding lineOf
+returns c =
+    let row = c .before .before .before in
+    let asked = row .before .before in
+    let question = asked .before .before in
+    let line = question .before .before .args .line .now in
+    let text = take-all (length line - 2) (drop 2 line) (simp length-drop (omega arith)) in
+    let parsed = rw text at (c .before .parse .ensures) in
+    rw (← question .plain-question .ensures, asked .asked .given .1, c .seen-at .ensures, parsed, row .row-of .ensures)
+
+pub see-spec : {M : Type 1} → statement M
+unfolding lineOf
+see-spec =
+    tie.close
+    (tie.spec
+    (λ c κs. search needs) (λ c. search needs) (λ c κs. search needs)
+    long long
+    (λ c. search needs) (λ c κs. search needs) (λ c κs. search needs) (λ c. search needs)
+    returns
+    (λ c. rw (← c .before .before .plain-question .ensures, c .enum-told .given .1)))

@@ -1,0 +1,60 @@
+// The seven lines of a log.
+ghost use Rattle.text.specs.Text.{Puts};
+ghost use Rattle.logs.specs.Table.{rowText, tableText, lineText, weekText};
+use text::put;
+use text::put_byte;
+use types::InSeconds;
+use words::records::seconds_word;
+use words::rows::put_word;
+use words::rows::put_words;
+use words::word::Word;
+
+// NAME A B C D
+fn put_row(out: &mut [u8], at: usize, name: &[u8], row: [u64; 4]) -> usize
+    ensures { λ r. ⌜ Puts (rowText (now (name .entry)) row) (now (out .entry)) at (now (out .exit)) r ⌝ }
+{
+    let no = Word::Nothing;
+    let counts = [
+        Word::Number(row[0]),
+        Word::Number(row[1]),
+        Word::Number(row[2]),
+        Word::Number(row[3]),
+        no,
+        no,
+        no,
+        no,
+        no,
+    ];
+    let next = put(out, at, name);
+    let next = put_words(out, next, counts);
+    put_byte(out, next, 10)
+}
+
+// A line for each kind.
+fn put_table(out: &mut [u8], at: usize, table: [[u64; 4]; 5]) -> usize
+    ensures { λ r. ⌜ Puts (tableText table) (now (out .entry)) at (now (out .exit)) r ⌝ }
+{
+    let next = put_row(out, at, b"date", table[0]);
+    let next = put_row(out, next, b"time", table[1]);
+    let next = put_row(out, next, b"offset", table[2]);
+    let next = put_row(out, next, b"stamp", table[3]);
+    put_row(out, next, b"duration", table[4])
+}
+
+// NAME and one word
+fn put_line(out: &mut [u8], at: usize, name: &[u8], word: Word) -> usize
+    ensures { λ r. ⌜ Puts (lineText (now (name .entry)) word) (now (out .entry)) at (now (out .exit)) r ⌝ }
+{
+    let next = put(out, at, name);
+    let next = put_word(out, next, word);
+    put_byte(out, next, 10)
+}
+
+// The seven lines, from the front of `out` on.
+pub fn put_week(out: &mut [u8], table: [[u64; 4]; 5], bad: u64, sum: InSeconds) -> usize
+    ensures { λ r. ⌜ Puts (weekText table bad sum) (now (out .entry)) 0 (now (out .exit)) r ⌝ }
+{
+    let next = put_table(out, 0, table);
+    let next = put_line(out, next, b"bad", Word::Number(bad));
+    put_line(out, next, b"seconds", seconds_word(sum))
+}
