@@ -5,12 +5,14 @@ use mathlib.Core.Bool.{Bool, true, false}
 use mathlib.Core.Path.{_≡_, refl, sym}
 use native.Mathlib.Omega.{arith}
 use lib.ListN.{length}
+use lib.Dec.{ltb}
 use borrow.Author.Tests.{le-ltb}
 use Rattle.types.specs.declared.Verdict.the-variants.{Open}
-use Rattle.parser.specs.Reading.{Found, Says}
-use Rattle.parser.specs.Answer.{begun, recorded, verdictOf, Judged, Begins, Ended}
+use Rattle.parser.specs.Reading.{Found, no, got, stop, Says, pick}
+use Rattle.parser.specs.Answer.{begun, ended, recorded, refused, verdictOf, Judged, Begins, Ended}
 use Rattle.parser.proofs.Stable.{Stable}
 use Rattle.parser.proofs.Places.{Bounded, Fails}
+use Rattle.parser.proofs.Stops.{OneOrTwo, no-form, too-big}
 use Rattle.parser.proofs.General.{Eager}
 use Rattle.parser.proofs.Hopeful.{Anything, HopefulOr, hopeful-weaken, never-stops}
 use Rattle.parser.proofs.Lawful.{LawfulOr, lawful-begins, ItemOr, widen, map-item}
@@ -65,6 +67,27 @@ stable k = lawful k .steady .stable
 -- what is found ends within the input
 pub bounded : (k : Kind) → Bounded (ruleOf k)
 bounded k = lawful k .steady .bounded
+
+-- what stops a reading is no form or a number that is too big
+pub stops-by : (k : Kind) (s : List ℕ) (at r : ℕ) → ruleOf k .reads s at ≡ stop r → (1 ≤ r) × (r ≤ 2)
+stops-by k s at r e = go (lawful k .steady .numbered .by s at r e)
+  where
+    go : {q : ℕ} → OneOrTwo q → (1 ≤ q) × (q ≤ 2)
+    go no-form = (omega arith, omega arith)
+    go too-big = (omega arith, omega arith)
+
+-- so the whole reader's answer is one of four
+pub four-answers : (k : Kind) (s : List ℕ) → ended (length s) (ruleOf k .reads s 0) .number ≤ 3
+four-answers k s = go (ruleOf k .reads s 0) refl
+  where
+    whole : (a : Record) (n : ℕ) (t : Bool) → pick t (refused 3 n) (recorded a n) .number ≤ 3
+    whole a n true = omega arith
+    whole a n false = omega arith
+
+    go : (f : Found Record) → ruleOf k .reads s 0 ≡ f → ended (length s) f .number ≤ 3
+    go no e = omega arith
+    go (stop r) e = omega (arith, stops-by k s 0 r e)
+    go (got a n) e = whole a n (ltb n (length s))
 
 -- where a byte more could matter, so many bytes, or fewer, are read to the last one, or stop the reading
 pub hopeful : (k : Kind) → HopefulOr (MayStopOf k) (bound k) Anything (ruleOf k)

@@ -18,7 +18,8 @@ use Rattle.parser.proofs.Hopeful.{Anything}
 use Rattle.parser.proofs.Leaves.{From, above-zero, signed-at-end}
 use Rattle.parser.proofs.Says.{says-alt-no, says-map}
 use Rattle.parser.proofs.Lawful.{byte, lawful-begins, TailIf, tail-where, map-tail, Item, map-item, alt-item, tested-tail, seq-item}
-use Rattle.parser.proofs.Unstopped.{Unstopped, lit-unstopped, field-unstopped, seq-unstopped, opt-unstopped, alt-unstopped, verify-unstopped, map-unstopped}
+use Rattle.parser.proofs.Stops.{lit-stops, field-stops, map-stops, verify-stops, opt-stops, alt-stops, seq-stops}
+use Rattle.parser.proofs.Unstopped.{Unstopped}
 use Rattle.parser.proofs.Items.{lit-mark, signed-mark, after-item, preceded-item, field-item-in}
 use Rattle.offset.specs.Rules.{allowed, offsetMinute, offsetHour, offsetZulu, offset}
 
@@ -105,10 +106,10 @@ offset-begins = lawful-begins (offset-item .lawful)
 pub offset-unstopped : Unstopped offset
 unfolding offset offsetHour offsetMinute offsetZulu
 offset-unstopped =
-    alt-unstopped
-    (seq-unstopped signed-unstopped (λ minus.
-    seq-unstopped (field-unstopped 2 0 23) (λ h. map-unstopped _ (verify-unstopped _ (opt-unstopped (seq-unstopped (opt-unstopped (lit-unstopped 58)) (λ _. field-unstopped 2 0 59)))))))
-    (map-unstopped _ (lit-unstopped 90))
+    alt-stops
+    (seq-stops signed-unstopped (λ minus.
+    seq-stops (field-stops 2 0 23) (λ h. map-stops _ (verify-stops _ (opt-stops (seq-stops (opt-stops (lit-stops 58)) (λ _. field-stops 2 0 59)))))))
+    (map-stops _ (lit-stops 90))
   where
     signed-unstopped : Unstopped signed
-    signed-unstopped = alt-unstopped (map-unstopped _ (lit-unstopped 45)) (map-unstopped _ (lit-unstopped 43))
+    signed-unstopped = alt-stops (map-stops _ (lit-stops 45)) (map-stops _ (lit-stops 43))

@@ -15,6 +15,7 @@ use Rattle.parser.proofs.Fields.{true≢false, and-first, and-second}
 use Rattle.parser.proofs.Stable.{lit-stable, field-stable, any-growing, most-growing}
 use Rattle.parser.proofs.Places.{Foreign, lit-bounded, field-bounded, lit-fails, field-fails, run-fails, seq-fails, lit-foreign, field-foreign}
 use Rattle.parser.proofs.Ahead.{lit-ahead, field-ahead}
+use Rattle.parser.proofs.Stops.{no-form, too-big, lit-stops, field-stops}
 use Rattle.parser.proofs.Steady.{opt-steady, run-steady}
 use Rattle.parser.proofs.Hopeful.{Ends, AnyByte, Anything, hopeful-or, Starts, Keeps, AtEnd, definite-keeps, at-end-definite, starts-weaken, left-out-starts}
 use Rattle.parser.proofs.Leaves.{From, Narrows, lit-starts, lit-at-end, lit-hopeful, map-at-end, alt-at-end, field-hopeful-in, field-starts, field-definite}
@@ -31,7 +32,7 @@ pub record Mark {A : Type 0} (l : List ℕ) (c : ℕ) (p : Reader A) : Type 0 wh
 pub lit-mark : {l : List ℕ} (c : ℕ) → member l c ≡ true → Mark l c (lit c)
 lit-mark {l} c h = record {
   item = record {
-    lawful = record { steady = record { stable = lit-stable c; bounded = lit-bounded c; ahead = lit-ahead c; foreign = lit-foreign (Outside l) c (outside-other l c h) }; hopeful = hopeful-or (lit-hopeful c) };
+    lawful = record { steady = record { stable = lit-stable c; bounded = lit-bounded c; ahead = lit-ahead c; foreign = lit-foreign (Outside l) c (outside-other l c h); numbered = lit-stops c }; hopeful = hopeful-or (lit-hopeful c) };
     fails = lit-fails c;
     eager = lit-eager c;
     starts = lit-starts c;
@@ -106,7 +107,7 @@ pub field-item-in : {l : List ℕ} (n lo hi lo′ hi′ : ℕ) → and (leb lo l
 field-item-in zero lo hi lo′ hi′ h narrows = absurd (true≢false (sym (and-second (leb hi′ hi) (and-second (leb lo lo′) h))))
 field-item-in {l} (suc n) lo hi lo′ hi′ h narrows = record {
   lawful = record {
-    steady = record { stable = field-stable (suc n) lo hi; bounded = field-bounded (suc n) lo hi; ahead = field-ahead (suc n) lo hi; foreign = field-foreign (Outside l) (suc n) lo hi (outside-digit l) };
+    steady = record { stable = field-stable (suc n) lo hi; bounded = field-bounded (suc n) lo hi; ahead = field-ahead (suc n) lo hi; foreign = field-foreign (Outside l) (suc n) lo hi (outside-digit l); numbered = field-stops (suc n) lo hi };
     hopeful = hopeful-or (field-hopeful-in (suc n) lo hi lo′ hi′ a b ab narrows);
   };
   fails = field-fails (suc n) lo hi (omega arith);
@@ -139,7 +140,7 @@ field-keeps n lo hi = definite-keeps (In isDigit) (field n lo hi) (field-stable 
 
 pub fraction-item : {l : List ℕ} → Item l isDigit 1 1 Anything fraction
 fraction-item {l} = record {
-  lawful = record { steady = run-steady fractionOf any-growing 1 (outside-digit l); hopeful = hopeful-or fraction-hopeful };
+  lawful = record { steady = run-steady fractionOf any-growing no-form (outside-digit l); hopeful = hopeful-or fraction-hopeful };
   fails = run-fails fractionOf any 1;
   eager = run-eager fractionOf any-growing 1;
   starts = run-starts fractionOf any-growing 1;
@@ -148,7 +149,7 @@ fraction-item {l} = record {
 -- a run and what must follow it, which starts with the byte c
 pub run-item : {B : Type 0} {l : List ℕ} (c : ℕ) {k n : ℕ} {F : B → Type 0} {q : ℕ → Reader B} → isDigit c ≡ false → ((v : ℕ) → Item l (byte c) k n F (q v)) → Item l isDigit (1 + k) (most (1 + k) n) F (seq run q)
 run-item {l = l} c {k = k} {F = F} {q = q} d hq = record {
-  lawful = seq-lawful (run-steady number (most-growing limit) 2 (outside-digit l)) (run-then-ends (In (byte c)) q other begun) (λ v. hq v .lawful);
+  lawful = seq-lawful (run-steady number (most-growing limit) too-big (outside-digit l)) (run-then-ends (In (byte c)) q other begun) (λ v. hq v .lawful);
   fails = seq-fails run q (run-fails number (atMost limit) 2);
   eager = seq-eager run q (run-eager number (most-growing limit) 2);
   starts = run-then-starts (In (byte c)) q other begun;

@@ -92,7 +92,7 @@ Lawful l k F p = LawfulOr ⊥ l k F p
 weaken-lawful : {U W : Type 0} {A : Type 0} {m l : List ℕ} {k : ℕ} {E F : A → Type 0} {p : Reader A} → (U → W) → ((b : ℕ) → Outside l b → Outside m b) → ((a : A) → E a → F a) → LawfulOr U m k E p → LawfulOr W l k F p
 weaken-lawful {k = k} {F = F} {p = p} f h g hp =
     let x = hp .steady in
-    record { steady = record { stable = x .stable; bounded = x .bounded; ahead = x .ahead; foreign = λ s c y at o. x .foreign s c y at (h c o) }; hopeful = hopeful-weaken k F p f (omega arith) g (hp .hopeful) }
+    record { steady = record { stable = x .stable; bounded = x .bounded; ahead = x .ahead; foreign = λ s c y at o. x .foreign s c y at (h c o); numbered = x .numbered }; hopeful = hopeful-weaken k F p f (omega arith) g (hp .hopeful) }
 
 map-lawful : {W : Type 0} {A B : Type 0} {l : List ℕ} {k : ℕ} {E : A → Type 0} (f : A → B) {p : Reader A} → LawfulOr W l k E p → LawfulOr W l k Anything (map f p)
 map-lawful f {p} hp = record { steady = map-steady f (hp .steady); hopeful = map-hopeful Anything f p (λ a e. tt) (hp .hopeful) }
@@ -237,6 +237,7 @@ alike-item {p = p} {q = q} e hq = record {
       bounded = λ s at le a n h. hq .lawful .steady .bounded s at le a n (sym (e s at .reads) ∙ h);
       ahead = λ s at a n h. hq .lawful .steady .ahead s at a n (sym (e s at .reads) ∙ h);
       foreign = λ s c y at x le. e (s ++ c ∷ y) at .reads ∙ hq .lawful .steady .foreign s c y at x le ∙ sym (e s at .reads);
+      numbered = record { by = λ s at r h. hq .lawful .steady .numbered .by s at r (sym (e s at .reads) ∙ h) };
     };
     hopeful = alike-hopeful p q e (hq .lawful .hopeful);
   };

@@ -3,6 +3,7 @@ pub mod Runs
 pub mod Stable
 pub mod Places
 pub mod Ahead
+pub mod Stops
 pub mod Steady
 pub mod Hopeful
 pub mod Leaves

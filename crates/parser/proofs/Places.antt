@@ -20,6 +20,9 @@ no≢got e = let z : _≡_ {A = ℕ} 0 1 = cc in omega arith
 pub stop≢got : {A : Type 0} {a : A} {n r : ℕ} → stop r ≡ got a n → ⊥
 stop≢got e = let z : _≡_ {A = ℕ} 0 1 = cc in omega arith
 
+pub no≢stop : {A : Type 0} {r : ℕ} → _≡_ {A = Found A} no (stop r) → ⊥
+no≢stop e = let z : _≡_ {A = ℕ} 0 1 = cc in omega arith
+
 pub got-place : {A : Type 0} {a b : A} {m n : ℕ} → got a m ≡ got b n → m ≡ n
 got-place e = cc
 

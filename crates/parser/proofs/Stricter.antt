@@ -9,10 +9,9 @@ use lib.ListN.{length}
 use Rattle.parser.specs.Reading.{Found, no, got, stop, Reader, seq, after, opt, lack, alt, failed, must, keepOrStop, map, mapFound, or, and, pick}
 use Rattle.parser.specs.Digits.{number, runAt, ofRun, atTheEnd, any, runAs}
 use Rattle.parser.proofs.Fields.{true≢false, and-first}
-use Rattle.parser.proofs.Places.{stop≢got}
+use Rattle.parser.proofs.Places.{no≢stop, stop≢got}
 use Rattle.parser.proofs.Hopeful.{Ends, AnyByte, Hopeful, HopefulOr, Changes}
 use Rattle.parser.proofs.Says.{or-true}
-use Rattle.parser.proofs.Unstopped.{no≢stop}
 
 -- the same is found, or the reading is stopped
 abbrev SameOrStop : {A : Type 0} → Found A → Found A → Type 0

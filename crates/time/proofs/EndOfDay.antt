@@ -14,11 +14,12 @@ use Rattle.parser.specs.Reading.{Found, no, got, stop, Reader, seq, after, opt,
 use Rattle.parser.specs.Digits.{field, reach, lowest, highest, atMost, fractionOf}
 use Rattle.parser.specs.Fields.{minute, second, precededBy, orZero}
 use Rattle.parser.proofs.Fields.{true≢false}
-use Rattle.parser.proofs.Places.{stop≢got}
+use Rattle.parser.proofs.Places.{no≢stop, stop≢got}
 use Rattle.parser.proofs.Leaves.{field-definite}
 use Rattle.parser.proofs.General.{field-eager}
 use Rattle.parser.proofs.Stricter.{Stricter, same-stricter, must-stricter, run-stricter, map-stricter, opt-stricter, alt-stricter, seq-stricter, Valued}
-use Rattle.parser.proofs.Unstopped.{no≢stop, run-unstopped, Awaits, field-unstopped, definite-awaits, must-awaits, preceded-awaits}
+use Rattle.parser.proofs.Stops.{field-stops}
+use Rattle.parser.proofs.Unstopped.{run-unstopped, Awaits, definite-awaits, must-awaits, preceded-awaits}
 use Rattle.offset.specs.Rules.{offset}
 use Rattle.offset.proofs.Laws.{offset-unstopped}
 use Rattle.time.specs.declared.Clock.{Clock}
@@ -59,7 +60,7 @@ zeroField hi = precededBy 58 (zeroIf true (field 2 0 hi))
 
 zero-awaits : (hi : ℕ) → leb 0 hi ≡ true → Awaits (zeroField hi)
 unfolding must reach lowest highest
-zero-awaits hi h = preceded-awaits 58 (field-eager 2 0 hi (omega arith) (rw h)) (must-awaits _ 1 (definite-awaits (field-definite 2 0 hi) (field-unstopped 2 0 hi)))
+zero-awaits hi h = preceded-awaits 58 (field-eager 2 0 hi (omega arith) (rw h)) (must-awaits _ 1 (definite-awaits (field-definite 2 0 hi) (field-stops 2 0 hi)))
 
 -- ---- an optional item that does not stop has a value
 
@@ -144,7 +145,7 @@ unfolding afterHour timeOffset seq opt
 after-hour-valued r h s at o = go (behindHour r true .more s at) refl (behindHour r true .reads s at) refl o
   where
     zone : (c : Clock) (n : ℕ) → Valued (timeOffset h c) s n
-    zone c n = map-valued (timeOf h c) (opt offset) s n (opt-valued offset s n (λ r e. offset-unstopped .never s n r e))
+    zone c n = map-valued (timeOf h c) (opt offset) s n (opt-valued offset s n (λ r e. offset-unstopped .by s n r e))
 
     on : Valued (opt (behindHour r true)) s at → Valued (afterHour r true h) s at
     on v = let w = zone (orWhole 0 0 (v .0)) (v .1 .0) in (w .0, (w .1 .0, rw (v .1 .1, w .1 .1)))

@@ -20,6 +20,7 @@ use Rattle.parser.proofs.Places.{Bounded, Fails, lit-fails, field-fails, must-f
 use Rattle.parser.proofs.Hopeful.{Anything, never-stops}
 use Rattle.parser.proofs.General.{Eager}
 use Rattle.parser.proofs.Stable.{most-growing}
+use Rattle.parser.proofs.Stops.{no-form}
 use Rattle.parser.proofs.Steady.{Steady, map-steady, must-steady, opt-steady, alt-steady, seq-steady, run-steady}
 use Rattle.parser.proofs.Stricter.{stricter-hopeful}
 use Rattle.parser.proofs.Lawful.{byte, Outside, outside-digit, lawful-begins, Tail, TailOr, tail-or, map-tail, seq-tail, Item, ItemOr, widen, map-item, alt-item, opt-tail, seq-item}
@@ -66,11 +67,11 @@ after-hour-tail r h = seq-tail (opt-tail (behind-item r)) (λ k. offset-tail h (
 -- ---- behind an hour that ends the day
 
 zero-steady : (hi : ℕ) → Steady (Outside bytes) (field 2 0 hi) → Steady (Outside bytes) (zeroField hi)
-zero-steady hi h = seq-steady (opt-steady (lit-mark {l = bytes} 58 refl .item .lawful .steady)) (λ _. must-steady _ 1 h)
+zero-steady hi h = seq-steady (opt-steady (lit-mark {l = bytes} 58 refl .item .lawful .steady)) (λ _. must-steady _ no-form h)
 
 point-steady : (u : TimeUnit) (mi se : ℕ) → Steady (Outside bytes) (timeFraction u true mi se)
 unfolding timeFraction
-point-steady u mi se = map-steady _ (seq-steady (either-mark {l = bytes} 44 46 refl refl .item .lawful .steady) (λ _. run-steady fractionOf (most-growing 0) 1 (outside-digit bytes)))
+point-steady u mi se = map-steady _ (seq-steady (either-mark {l = bytes} 44 46 refl refl .item .lawful .steady) (λ _. run-steady fractionOf (most-growing 0) no-form (outside-digit bytes)))
 
 minute-steady : (r : Reading) → Steady (Outside bytes) (minuteSecondMillisecond r true)
 unfolding minuteSecondMillisecond secondMillisecond millisecond

@@ -12,10 +12,9 @@ use Rattle.parser.specs.Reading.{Found, no, got, stop, Reader, lit, seq, after,
 use Rattle.parser.specs.Digits.{isDigit, field, digitsMore}
 use Rattle.parser.specs.Fields.{minute, second, either, precededBy}
 use Rattle.parser.proofs.Fields.{true≢false}
-use Rattle.parser.proofs.Places.{no≢got, Fails}
+use Rattle.parser.proofs.Places.{no≢got, no≢stop, Fails}
 use Rattle.parser.proofs.Hopeful.{AtEnd}
 use Rattle.parser.proofs.Items.{either-mark}
-use Rattle.parser.proofs.Unstopped.{no≢stop}
 use Rattle.time.specs.declared.TimeUnit.{TimeUnit}
 use Rattle.time.specs.Rules.{zeroIf, orWhole, unitOf, timeFraction, millisecond, secondMillisecond, minuteSecondMillisecond}
 

@@ -4,7 +4,7 @@ use mathlib.Core.List.{List}
 use mathlib.Core.Bool.{Bool, true, false}
 use mathlib.Core.Path.{_≡_, refl, sym, _∙_}
 use Rattle.parser.specs.Reading.{Found, Says, SaysOn, no, stop, opt, lack, mapFound, or}
-use Rattle.parser.proofs.Unstopped.{no≢stop}
+use Rattle.parser.proofs.Places.{no≢stop}
 use Rattle.parser.proofs.Says.{or-false, or-true, says-opt, says-on, on-map}
 use Rattle.time.specs.declared.Clock.{Clock}
 use Rattle.time.specs.declared.TimeUnit.{TimeUnit}
