@@ -1,3 +1,4 @@
 pub mod Laws
+pub mod Steps
 mod Along
-mod Steps
+mod Short

@@ -17,6 +17,7 @@ use Rattle.logs.specs.declared.Week.{Week}
 use Rattle.logs.specs.Table.{logText, weekText}
 use Rattle.logs.specs.Log.{longest, input, Comes, Sofar, After, started, withLine, AllLines, Steps, lastText, Finishes}
 use Rattle.logs.proofs.Laws.{comes-then}
+use Rattle.logs.proofs.Short.{week-short}
 
 take-more : (m : ℕ) (a b : List ℕ) → take m (a ++ b) ≡ take m a ++ take (m - length (take m a)) b
 take-more zero a b = refl
@@ -89,11 +90,18 @@ module _ (w : Week) (table : List (List ℕ)) (kept : List ℕ) where
           let line : lineOf (b ∷ l) ≡ lineOf (end .line) = ap lineOf (end .kept) ∙ line-clip (length kept) (end .line) long in
           rw (end .lines, line) (comes-text (comes-then (end .line) (omega (arith, finished-few (input handed), input-short handed)) (a .sofar .comes)))
 
+  short : length (lastText w table (take (w .held) kept)) ≤ 1024
+  short = go (take (w .held) kept)
+    where
+      go : (held : List ℕ) → length (lastText w table held) ≤ 1024
+      go [] = week-short _ _ _
+      go (b ∷ l) = week-short _ _ _
+
   module _ {n : ℕ} {out out′ : List ℕ} {r : ℕ} (clamped : n ≡ min (w .held) (length kept)) where
     pub ends-none : n ≡ 0 → Puts (weekText table (w .bad) (w .tally .sum)) out 0 out′ r → Finishes w table kept out out′ r
-    ends-none e p = record { puts = rw (held-nothing (w .held) kept clamped e) p; says = says }
+    ends-none e p = record { puts = rw (held-nothing (w .held) kept clamped e) p; short = short; says = says }
 
     pub ends-last : (n ≡ 0 → ⊥) → let line = seen (lineOf (take n kept)) in Puts (weekText (counted line table) (withLine w line .bad) (withLine w line .tally .sum)) out 0 out′ r → Finishes w table kept out out′ r
     ends-last e p =
         let held = held-whole (w .held) kept clamped in
-        record { puts = rw (last-text (take (w .held) kept) (held-some (w .held) kept clamped e)) at (rw held at p); says = says }
+        record { puts = rw (last-text (take (w .held) kept) (held-some (w .held) kept clamped e)) at (rw held at p); short = short; says = says }

@@ -1,7 +1,9 @@
 -- A log that arrives in blocks: what is counted of all bytes so far.
-use Prim.Native.Nat.{ℕ, _+_, _≤_}
+use Prim.Native.Nat.{ℕ, _+_, _-_, _≤_, min}
+use mathlib.Core.Bool.{Bool}
 use mathlib.Core.List.{List, [], _∷_, _++_}
 use mathlib.Core.Path.{_≡_}
+use lib.Dec.{ltb}
 use lib.ListN.{length, take}
 use Rattle.types.specs.Sums.{orOver}
 use Rattle.types.specs.declared.InSeconds.the-variants.{Sum}
@@ -64,12 +66,17 @@ pub record Steps (w : Week) (block : List ℕ) (table : List (List ℕ)) (kept :
   pub goes : 205 ≤ length kept → (handed : List ℕ) → After (length kept) handed table w kept → After (length kept) (handed ++ block) table′ r kept′
   pub size : length kept′ ≡ length kept
 
+-- whether a block has bytes behind the input
+abbrev pub passes : Week → List ℕ → Bool
+passes w block = ltb (longest - min (w .taken) longest) (length block)
+
 -- at the end what is held is a line where it is not empty
 abbrev pub lastText : Week → List (List ℕ) → List ℕ → List ℕ
 lastText w table [] = weekText table (w .bad) (w .tally .sum)
 lastText w table (b ∷ l) = let line = seen (lineOf (b ∷ l)) in weekText (counted line table) (badCounted line (w .bad)) (withLine w line .tally .sum)
 
--- the text that is put; of what was handed over it is the table of its lines
+-- the text that is put, which has at most 1,024 bytes; of what was handed over it is the table of its lines
 pub record Finishes (w : Week) (table : List (List ℕ)) (kept out out′ : List ℕ) (r : ℕ) : Type 0 where
   pub puts : Puts (lastText w table (take (w .held) kept)) out 0 out′ r
+  pub short : length (lastText w table (take (w .held) kept)) ≤ 1024
   pub says : 205 ≤ length kept → (handed : List ℕ) → After (length kept) handed table w kept → lastText w table (take (w .held) kept) ≡ logText (lines (input handed))

@@ -10,26 +10,44 @@ use Rattle.words.specs.declared.word.Word.{Word}
 use Rattle.words.specs.declared.word.Word.the-variants.{Number}
 use Rattle.counts.specs.Counts.{tableOf, badOf, secondsInAll}
 
+-- `date`, `time`, `offset`, `stamp`, `duration`, `bad`, `seconds`
+abbrev pub dateName : List ℕ
+dateName = 100 ∷ 97 ∷ 116 ∷ 101 ∷ []
+
+abbrev pub timeName : List ℕ
+timeName = 116 ∷ 105 ∷ 109 ∷ 101 ∷ []
+
+abbrev pub offsetName : List ℕ
+offsetName = 111 ∷ 102 ∷ 102 ∷ 115 ∷ 101 ∷ 116 ∷ []
+
+abbrev pub stampName : List ℕ
+stampName = 115 ∷ 116 ∷ 97 ∷ 109 ∷ 112 ∷ []
+
+abbrev pub durationName : List ℕ
+durationName = 100 ∷ 117 ∷ 114 ∷ 97 ∷ 116 ∷ 105 ∷ 111 ∷ 110 ∷ []
+
+abbrev pub badName : List ℕ
+badName = 98 ∷ 97 ∷ 100 ∷ []
+
+abbrev pub secondsName : List ℕ
+secondsName = 115 ∷ 101 ∷ 99 ∷ 111 ∷ 110 ∷ 100 ∷ 115 ∷ []
+
 -- a name and its four counts
 abbrev pub rowText : List ℕ → List ℕ → List ℕ
 rowText name row = name ++ textOf (Number (getD row 0 0) ∷ Number (getD row 1 0) ∷ Number (getD row 2 0) ∷ Number (getD row 3 0) ∷ []) ++ (10 ∷ [])
 
--- `date`, `time`, `offset`, `stamp`, `duration`
+-- a row for each kind
 unfoldable pub tableText : List (List ℕ) → List ℕ
 tableText t =
-    rowText (100 ∷ 97 ∷ 116 ∷ 101 ∷ []) (getD t 0 [])
-    ++ rowText (116 ∷ 105 ∷ 109 ∷ 101 ∷ []) (getD t 1 [])
-    ++ rowText (111 ∷ 102 ∷ 102 ∷ 115 ∷ 101 ∷ 116 ∷ []) (getD t 2 [])
-    ++ rowText (115 ∷ 116 ∷ 97 ∷ 109 ∷ 112 ∷ []) (getD t 3 [])
-    ++ rowText (100 ∷ 117 ∷ 114 ∷ 97 ∷ 116 ∷ 105 ∷ 111 ∷ 110 ∷ []) (getD t 4 [])
+    rowText dateName (getD t 0 []) ++ rowText timeName (getD t 1 []) ++ rowText offsetName (getD t 2 []) ++ rowText stampName (getD t 3 []) ++ rowText durationName (getD t 4 [])
 
+-- a name and a word
 abbrev pub lineText : List ℕ → Word → List ℕ
 lineText name w = name ++ wordText w ++ (10 ∷ [])
 
--- the table, `bad` and `seconds`
+-- the table, the bad lines and the sum
 unfoldable pub weekText : List (List ℕ) → ℕ → InSeconds → List ℕ
-weekText t bad sum =
-    tableText t ++ lineText (98 ∷ 97 ∷ 100 ∷ []) (Number bad) ++ lineText (115 ∷ 101 ∷ 99 ∷ 111 ∷ 110 ∷ 100 ∷ 115 ∷ []) (secondsWord sum)
+weekText t bad sum = tableText t ++ lineText badName (Number bad) ++ lineText secondsName (secondsWord sum)
 
 -- of some lines: each count is how many of them there are, and the sum is the exact one, or `over` where that is above the limit
 abbrev pub logText : List (List ℕ) → List ℕ

@@ -8,7 +8,7 @@ ghost use mathlib.Core.Path.{_≡_};
 ghost use lib.ListN.{length, take};
 ghost use Rattle.text.specs.Text.{Puts};
 ghost use Rattle.counts.specs.Counts.{tableOf};
-ghost use Rattle.logs.specs.Log.{started, withLine, One, AllLines, Steps, Finishes};
+ghost use Rattle.logs.specs.Log.{started, withLine, One, AllLines, passes, Steps, Finishes};
 use counts::Seen;
 use lines::lesser;
 use tally::Tally;
@@ -121,6 +121,14 @@ pub fn step(week: Week, table: &mut [[u64; 4]; 5], kept: &mut [u8], block: &[u8]
     so_far.held = lesser(week.held, kept.len());
     so_far.taken = taken + n;
     all_lines(so_far, table, kept, &block[..n])
+}
+
+// Whether a block has bytes behind the input.
+pub fn is_past(week: Week, block: &[u8]) -> bool
+    ensures { λ r. ⌜ r ≡ passes week (now (block .entry)) ⌝ }
+{
+    let taken = lesser(week.taken, LIMIT);
+    LIMIT - taken < block.len()
 }
 
 // The end of the input: puts the table, with the last line, where no byte 10 ended it and it is not empty.

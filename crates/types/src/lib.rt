@@ -254,7 +254,7 @@ impl InSeconds {
     {
         match more {
             InSeconds::Sum(n) => self.plus(n, 1),
-            InSeconds::Over => InSeconds::Over,
+            InSeconds::Over => more,
         }
     }
 
