@@ -1,4 +1,5 @@
 pub mod Laws
 pub mod Steps
+pub mod Once
 mod Along
 mod Short
