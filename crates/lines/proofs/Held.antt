@@ -9,7 +9,7 @@ use lib.Dec.{leb}
 use lib.ListN.{length, take, drop}
 use lib.Seq.{drop-drop, take-add, take-nil, take-all, take-length, length-take-le}
 use borrow.Author.Tests.{leb-true, leb-false}
-use Rattle.lines.specs.Lines.{split, lines, lastLine, clip, between, Holds}
+use Rattle.lines.specs.Lines.{split, lines, clip, between, Holds}
 
 -- two parts of a block, one behind the other
 pub between-then : (f u v : ℕ) (s : List ℕ) → f ≤ u → u ≤ v → between f u s ++ between u v s ≡ between f v s

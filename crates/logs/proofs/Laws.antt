@@ -1,7 +1,7 @@
 -- What is counted of all bytes so far: a line that ends is one line more, and a line that goes on is none.
 use Prim.Native.Nat.{ℕ, _+_, _-_, _≤_, _<_}
-use mathlib.Core.Bool.{Bool, true, false}
-use mathlib.Core.List.{List, [], _∷_, _++_, append-assoc, append-nil}
+use mathlib.Core.Bool.{true, false}
+use mathlib.Core.List.{List, [], _∷_, _++_}
 use mathlib.Core.Option.{Option, some, none}
 use mathlib.Core.Path.{_≡_, refl, sym, ap, _∙_}
 use native.Mathlib.Omega.{arith}
@@ -9,7 +9,7 @@ use lib.ListN.{length, take, length-append}
 use lib.Seq.{take-nil}
 use Rattle.types.specs.Sums.{largest, orOver}
 use Rattle.types.proofs.Laws.{both-come}
-use Rattle.lines.specs.Lines.{split, clip, between, Holds, GoesOn, Takes}
+use Rattle.lines.specs.Lines.{split, between, Holds, GoesOn, Takes}
 use Rattle.lines.specs.declared.Taken.{Taken}
 use Rattle.lines.proofs.Laws.{took-line, taken-room, taken-moves}
 use Rattle.lines.proofs.Pinned.{finished-few}
@@ -17,7 +17,7 @@ use Rattle.counts.specs.Counts.{Line, lineOf, secondsInAll, adds}
 use Rattle.counts.specs.Seen.{seen, counted, adding}
 use Rattle.counts.proofs.Laws.{line-clip, table-then, bad-then, seconds-then}
 use Rattle.logs.specs.declared.Week.{Week}
-use Rattle.logs.specs.Log.{longest, Comes, Sofar, withLine, Goes, One}
+use Rattle.logs.specs.Log.{longest, Comes, Sofar, withLine, One}
 
 -- what a line adds is its true seconds, or over
 adding-is : (x : Option Line) → adding (seen x) ≡ orOver (adds x)

@@ -1,10 +1,9 @@
 -- For bytes so far that agree with the state, what a step leaves is fixed, and what `finish` puts is fixed for every state. And the numbers that
 -- are printed, but for the sum, make up the lines.
 use Prim.Native.Nat.{ℕ, _+_, _≤_}
-use mathlib.Core.List.{List, _++_}
+use mathlib.Core.List.{List}
 use mathlib.Core.Path.{_≡_, sym, ap, _∙_}
 use lib.ListN.{length, take}
-use Rattle.types.specs.declared.InSeconds.{InSeconds}
 use Rattle.text.specs.Text.{Output, output}
 use Rattle.lines.specs.Lines.{lines}
 use Rattle.counts.specs.Counts.{tableOf, badOf, inAll}

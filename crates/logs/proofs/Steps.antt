@@ -6,7 +6,7 @@ use native.Mathlib.Nat.{sub-zero}
 use native.Mathlib.Omega.{arith}
 use lib.ListN.{length, take, length-append, length-take}
 use lib.Seq.{length-take-le, take-nil}
-use Rattle.lines.specs.Lines.{splitBy, split, lines, Holds}
+use Rattle.lines.specs.Lines.{splitBy, lines, Holds}
 use Rattle.lines.proofs.Held.{take-lesser, held-whole, held-nothing, held-some, no-last, last}
 use Rattle.lines.proofs.Pinned.{finished-few}
 use Rattle.text.specs.Text.{Puts}

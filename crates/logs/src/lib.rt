@@ -5,8 +5,7 @@
 ghost use Prim.Native.Nat.{_≤_};
 ghost use mathlib.Core.List.{[]};
 ghost use mathlib.Core.Path.{_≡_};
-ghost use lib.ListN.{length, take};
-ghost use Rattle.text.specs.Text.{Puts};
+ghost use lib.ListN.{length};
 ghost use Rattle.counts.specs.Counts.{tableOf};
 ghost use Rattle.logs.specs.Log.{started, withLine, One, AllLines, passes, Steps, Finishes};
 use counts::Seen;

@@ -1,12 +1,12 @@
 -- What is put for all bytes so far: a line that ends adds its response, and a line that goes on adds nothing.
-use Prim.Native.Nat.{ℕ, _+_, _-_, _≤_, _<_, min}
+use Prim.Native.Nat.{ℕ, _+_, _-_, _≤_, min}
 use mathlib.Core.Bool.{true, false}
 use mathlib.Core.List.{List, [], _∷_, _++_, append-assoc, append-nil}
-use mathlib.Core.Path.{_≡_, refl, sym, ap, _∙_}
+use mathlib.Core.Path.{_≡_, refl, sym, _∙_}
 use native.Mathlib.Omega.{arith}
 use lib.ListN.{length, take}
 use lib.Seq.{take-nil}
-use Rattle.lines.specs.Lines.{split, lines, clip, between, Holds, GoesOn}
+use Rattle.lines.specs.Lines.{split, lines, clip, Holds, GoesOn}
 use Rattle.lines.specs.Lines.{Takes}
 use Rattle.lines.specs.declared.Taken.{Taken}
 use Rattle.lines.proofs.Laws.{took-line, taken-room, taken-moves}

@@ -1,10 +1,10 @@
 -- After some blocks what was handed over is the log up to the place that is reached, however it was cut.
 use Prim.Native.Nat.{ℕ, _-_, _≤_, _<_}
-use mathlib.Core.List.{List, [], _++_}
-use mathlib.Core.Path.{_≡_, refl, sym, ap, subst, _∙_}
+use mathlib.Core.List.{List, []}
+use mathlib.Core.Path.{_≡_, ap, subst, _∙_}
 use native.Mathlib.Nat.{sub-zero}
 use native.Mathlib.Omega.{arith}
-use lib.ListN.{length, take}
+use lib.ListN.{length}
 use lib.Seq.{take-all}
 use Rattle.text.specs.Text.{Puts}
 use Rattle.lines.specs.Lines.{lines, between}
@@ -12,7 +12,7 @@ use Rattle.lines.proofs.Held.{between-then}
 use Rattle.counts.specs.Counts.{tableOf}
 use Rattle.logs.specs.declared.Week.{Week}
 use Rattle.logs.specs.Table.{logText}
-use Rattle.logs.specs.Log.{input, After, started, Steps, lastText, Finishes}
+use Rattle.logs.specs.Log.{input, After, started, Steps, Finishes}
 use Rattle.logs.proofs.Steps.{starts}
 use Rattle.weeks.specs.Blocks.{Within}
 

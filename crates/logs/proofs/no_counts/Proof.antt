@@ -1,5 +1,4 @@
 -- Of no lines every count is 0.
-use borrow.Author.Needs.{needs}
 use mathlib.Core.Path.{refl}
 use Rattle.counts.specs.Counts.{howMany}
 use Rattle.logs.proofs.no_counts.Statement.{statement}

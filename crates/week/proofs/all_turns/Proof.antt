@@ -1,7 +1,6 @@
 -- The buffers keep their lengths, and the turns run down.
 use mathlib.Core.Path.{_≡_, refl, _∙_}
 use borrow.Author.Needs.{needs}
-use native.Mathlib.Omega.{arith}
 use lib.ListN.{length}
 use Rattle.week.proofs.all_turns.Statement.{statement}
 use Rattle.week.proofs.all_turns.Tie as tie

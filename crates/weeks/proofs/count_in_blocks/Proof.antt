@@ -2,7 +2,6 @@
 use Prim.Native.Nat.{_-_}
 use mathlib.Core.Path.{refl, sym}
 use borrow.Author.Needs.{needs}
-use native.Mathlib.Omega.{arith}
 use lib.ListN.{length}
 use Rattle.weeks.proofs.Along.{Along, begins, less, goes-on, ends}
 use Rattle.weeks.proofs.count_in_blocks.Statement.{statement}
