@@ -1,9 +1,10 @@
 // What a line counts as, and the table of five kinds by four answers that a count is raised in.
 ghost use mathlib.Core.Path.{_≡_};
 ghost use Rattle.types.specs.Sums.{orOver};
+ghost use Rattle.parser.specs.Answer.{recorded};
 ghost use Rattle.kinds.specs.Kinds.{told};
 ghost use Rattle.counts.specs.Counts.{rowOf, secondsIn, toldAt, lineOf};
-ghost use Rattle.counts.specs.Seen.{seen, more, raised, counted, badCounted, adding};
+ghost use Rattle.counts.specs.Seen.{wholly, seen, more, raised, counted, badCounted, adding};
 use kinds::answer::Answer;
 use kinds::answer::Kind;
 use kinds::answer::Letter;
@@ -48,31 +49,49 @@ fn seconds_of(value: Record) -> InSeconds
     }
 }
 
-fn seen_at(row: usize, answer: Answer) -> Seen
-    ensures { λ r. ⌜ r ≡ seen (toldAt row (told answer)) ⌝ }
+fn counted(row: usize, answer: usize, seconds: InSeconds) -> Seen
+    ensures { λ r. ⌜ r ≡ Seen.Counted row answer seconds ⌝ }
 {
-    let number = answer.number() as usize;
-    match answer {
-        Answer::Record { value, count: _ } => Seen::Counted {
-            row,
-            answer: number,
-            seconds: seconds_of(value),
-        },
-        Answer::Refused { why: _, count: _ } => Seen::Counted {
-            row,
-            answer: number,
-            seconds: InSeconds::Sum(0),
-        },
+    Seen::Counted {
+        row,
+        answer,
+        seconds,
     }
 }
 
-// What a line counts as, without its end.
+// A record that so many of all bytes were read for: bytes that are left over are answer 3, and add nothing.
+fn of_record(row: usize, value: Record, count: usize, all: usize) -> Seen
+    ensures { λ r. ⌜ r ≡ seen (toldAt row (wholly all (recorded value count))) ⌝ }
+{
+    let adds = seconds_of(value);
+    if count < all {
+        return counted(row, 3, InSeconds::Sum(0));
+    }
+    counted(row, 0, adds)
+}
+
+// What the whole reader would say where the beginning reader says this of so many bytes.
+fn of_answer(row: usize, begun: Answer, all: usize) -> Seen
+    ensures { λ r. ⌜ r ≡ seen (toldAt row (wholly all (told begun))) ⌝ }
+{
+    let number = begun.number() as usize;
+    match begun {
+        Answer::Record { value, count } => of_record(row, value, count, all),
+        Answer::Refused { why: _, count: _ } => counted(row, number, InSeconds::Sum(0)),
+    }
+}
+
+// What a line counts as, without its end. The beginning reader is asked: it is the faster one, and its count tells the rest.
 pub fn see(line: &[u8]) -> Seen
     ensures { λ r. ⌜ r ≡ seen (lineOf (now (line .entry))) ⌝ }
 {
     let asked = reply::plain_question(line);
     match asked {
-        Letter::Names(kind) => seen_at(row_of(kind), kinds::parse(kind, &line[2..])),
+        Letter::Names(kind) => {
+            let read = kinds::read(kind, &line[2..]);
+            let begun = read.answer;
+            of_answer(row_of(kind), begun, line.len() - 2)
+        }
         Letter::Unknown => Seen::Bad,
     }
 }
