@@ -1,4 +1,7 @@
 // A week of logs in numbers: counts the lines of standard input by kind and answer, adds up the seconds of its durations, and prints seven lines.
+ghost use Prim.Native.Nat.{_≤_};
+ghost use lib.ListN.{length};
+ghost use Rattle.week.specs.Turns.{Turned, Counted};
 use libc::STDERR_FILENO;
 use libc::STDIN_FILENO;
 use libc::STDOUT_FILENO;
@@ -25,7 +28,9 @@ fn one_turn(
     table: &mut [[u64; 4]; 5],
     buf: &mut [u8],
     kept: &mut [u8],
-) -> Turn {
+) -> Turn
+    ensures { λ r. ⌜ Turned week past (now (table .entry)) (now (kept .entry)) (now (table .exit)) (now (kept .exit)) r ⌝ }
+{
     let got = libc::read(STDIN_FILENO, buf);
     if got < 0 {
         tell(b"week", b": standard input");
@@ -36,15 +41,26 @@ fn one_turn(
         return Turn::End;
     }
     let more = logs::is_past(week, &buf[..n]);
+    let next = logs::step(week, table, kept, &buf[..n]);
+    if past {
+        return Turn::On {
+            week: next,
+            past: true,
+        };
+    }
     Turn::On {
-        week: logs::step(week, table, kept, &buf[..n]),
-        past: past | more,
+        week: next,
+        past: more,
     }
 }
 
 // A proved loop has to end, and nothing says that an input does. So the loop counts its turns down, from a number that no run uses up. What comes
 // behind the input is read too, so that whoever writes it is not cut off.
-fn all_turns(table: &mut [[u64; 4]; 5], buf: &mut [u8], kept: &mut [u8]) -> Log {
+fn all_turns(table: &mut [[u64; 4]; 5], buf: &mut [u8], kept: &mut [u8]) -> Log
+    requires { ⌜ 205 ≤ length (now kept) ⌝ }
+    ensures { λ r. ⌜ Counted (now (table .exit)) (now (kept .exit)) r ⌝ }
+{
+    *table = logs::no_counts();
     let mut so_far = logs::start();
     let mut passed = false;
     let mut left = u64::MAX;
@@ -86,7 +102,7 @@ fn report(week: Week, table: [[u64; 4]; 5], kept: &[u8], past: bool) {
 fn main() {
     let mut buf = io::large_buffer();
     let mut kept = [0u8; 256];
-    let mut table = logs::no_counts();
+    let mut table = [[0u64; 4]; 5];
     let log = all_turns(&mut table, &mut buf, &mut kept);
     match log {
         Log::Whole { week, past } => report(week, table, &kept, past),
