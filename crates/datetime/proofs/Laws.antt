@@ -18,9 +18,10 @@ use Rattle.parser.proofs.Places.{Bounded}
 use Rattle.parser.proofs.Hopeful.{Anything}
 use Rattle.parser.proofs.Lawful.{byte, lawful-begins, open-apart, ItemOr, widen, map-item, outside-keeps, then-item}
 use Rattle.parser.proofs.Items.{lit-mark, after-item}
-use Rattle.time.proofs.Laws.{MayStop, base-time-item}
+use Rattle.parser.proofs.TooFew.{lit-takes, TooFew, map-too-few, then-too-few}
+use Rattle.time.proofs.Laws.{MayStop, base-time-item, base-time-too-few}
 use Rattle.date.specs.Rules.{date}
-use Rattle.date.proofs.Laws.{date-item}
+use Rattle.date.proofs.Laws.{date-item, date-takes}
 use Rattle.datetime.specs.Rules.{timeOf, afterDate, dateTime}
 
 -- what a date-time takes beside digits: `+`, `-`, `W`; `T`, `:`, `,`, `.` and `Z`
@@ -44,6 +45,11 @@ datetime-bounded c = datetime-item c .lawful .steady .bounded
 pub datetime-begins : (c : Choices) (s : List ℕ) (f : Found DateTime) (m : Bool) → Says (dateTime c) s 0 f m → Begins 10 (dateTime c) s (begun f) (verdictOf m)
 datetime-begins c = lawful-begins (datetime-item c .lawful)
 
+-- a date-time has ten bytes at least: a date's seven, `T`, and an hour's two
+pub datetime-too-few : (c : Choices) → TooFew 9 (dateTime c)
+unfolding dateTime afterDate timeOf
+datetime-too-few c = then-too-few date-takes (λ d. then-too-few (lit-takes 84) (λ _. map-too-few _ (base-time-too-few c)))
+
 -- ---- where a date is open no T stands behind it, which no date takes
 
 pub open-date : (s : List ℕ) (at : ℕ) (d : Date) (n : ℕ) → Says date s at (got d n) true → lit 84 .reads s n ≡ no
@@ -51,7 +57,7 @@ unfolding lit
 open-date s at d n h = go (ltb n (length s)) refl (eqb (getD s n 0) 84) refl
   where
     ahead : at ≤ n
-    ahead = date-item .lawful .steady .ahead s at d n (sym (h .found))
+    ahead = omega (arith, date-item .lawful .steady .ahead .takes s at d n (sym (h .found)))
 
     go : (t : Bool) → ltb n (length s) ≡ t → (u : Bool) → eqb (getD s n 0) 84 ≡ u → lit 84 .reads s n ≡ no
     go false i u e = rw i

@@ -10,7 +10,7 @@ use lib.Dec.{ltb, eqb}
 use borrow.Author.Tests.{lt-ltb, le-ltb}
 use Rattle.parser.specs.Reading.{Found, no, got, stop, Reader, lit, seq, opt, map, mapFound, give, pick, or, Says}
 use Rattle.parser.specs.Digits.{number, atMost, limit, run}
-use Rattle.parser.proofs.Ahead.{run-ahead}
+use Rattle.parser.proofs.Least.{run-least}
 use Rattle.parser.proofs.Says.{says-opt, says-seq-got, says-seq-stop}
 use Rattle.parts.specs.Items.{itemOf, itemAt, here, past}
 use Rattle.parts.specs.declared.Item.{Item}
@@ -119,4 +119,4 @@ further c s at = let e = go (run .reads s at) (run .more s at) refl in record { 
     go no false e = (omega arith, sym same)
     go (stop r) m e = (omega arith, sym same)
     go (got v n) true e = (omega arith, sym same)
-    go (got v n) false e = letter (eqb (getD s n 0) c) v (n + 1) (omega (arith, run-ahead number (atMost limit) 2 s at v n e))
+    go (got v n) false e = letter (eqb (getD s n 0) c) v (n + 1) (omega (arith, run-least number (atMost limit) 2 .takes s at v n e))

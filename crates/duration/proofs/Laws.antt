@@ -8,12 +8,13 @@ use Rattle.types.specs.declared.Duration.{Duration}
 use Rattle.parser.specs.Reading.{Found, Reader, lit, seq, opt, verify, give, or, Says}
 use Rattle.parser.specs.Answer.{begun, Begins, verdictOf}
 use Rattle.parser.specs.Digits.{isDigit}
-use Rattle.parser.proofs.Places.{Bounded, Fails}
+use Rattle.parser.proofs.Places.{Bounded, lit-fails, map-fails}
 use Rattle.parser.proofs.General.{Eager}
 use Rattle.parser.proofs.Hopeful.{Anything}
 use Rattle.parser.proofs.Alike.{verify-behind}
 use Rattle.parser.proofs.Lawful.{member, byte, lawful-begins, TailIf, give-tail, seq-tail, Item, map-item, opt-tail-if, required-item, alike-item}
 use Rattle.parser.proofs.Items.{lit-mark, after-item, preceded-item, run-item}
+use Rattle.parser.proofs.TooFew.{lit-takes, TooFew, too-few-fails, map-too-few, then-too-few, preceded-too-few, alike-too-few, run-too-few}
 use Rattle.duration.specs.declared.DurationTimeParts.{DurationTimeParts}
 use Rattle.duration.specs.Rules.{part, present, TimeParts, someTime, durationBaseTime, durationTime, Parts, partsRule, somePart, duration}
 
@@ -24,6 +25,10 @@ bytes = 80 ∷ 84 ∷ 89 ∷ 77 ∷ 87 ∷ 68 ∷ 72 ∷ 83 ∷ []
 part-item : (c : ℕ) → member bytes c ≡ true → isDigit c ≡ false → Item bytes isDigit 2 2 Anything (part c)
 unfolding part
 part-item c h d = run-item c d (λ v. map-item _ (lit-mark c h .item))
+
+part-too-few : (c : ℕ) → TooFew 1 (part c)
+unfolding part
+part-too-few c = run-too-few _ (λ v. map-fails _ (lit c) (lit-fails c))
 
 pub or-true : (a : Bool) → or a true ≡ true
 or-true true = refl
@@ -49,13 +54,13 @@ seconds-tail h m = seq-tail (opt-tail-if (part-item 83 refl refl) (λ v _. rw (o
 minutes-tail : (h : Option ℕ) → TailIf (SomeTime (clock h none none)) bytes 2 SomeTime (from-minutes h)
 minutes-tail h = seq-tail (opt-tail-if (part-item 77 refl refl) (λ v _. or-true (present h))) (seconds-tail h)
 
-no-time-fails : Fails (verify someTime (seq (opt (part 72)) from-minutes))
+some-time-too-few : TooFew 1 (verify someTime (seq (opt (part 72)) from-minutes))
 unfolding verify seq opt give
-no-time-fails s at h = rw (part-item 72 refl refl .fails s at h, part-item 77 refl refl .fails s at h, part-item 83 refl refl .fails s at h)
+some-time-too-few = record { finds = λ s at h. rw (part-too-few 72 .finds s at h, part-too-few 77 .finds s at h, part-too-few 83 .finds s at h) }
 
 base-time-item : Item bytes isDigit 2 2 Anything durationBaseTime
 unfolding durationBaseTime
-base-time-item = map-item _ (required-item someTime (part-item 72 refl refl) minutes-tail (λ v _. refl) no-time-fails)
+base-time-item = map-item _ (required-item someTime (part-item 72 refl refl) minutes-tail (λ v _. refl) (too-few-fails some-time-too-few))
 
 pub base-time-eager : Eager durationBaseTime
 base-time-eager = base-time-item .eager
@@ -63,6 +68,10 @@ base-time-eager = base-time-item .eager
 time-item : Item bytes isDigit 2 2 Anything durationTime
 unfolding durationTime
 time-item = preceded-item 84 refl refl base-time-item
+
+time-too-few : TooFew 1 durationTime
+unfolding durationTime durationBaseTime
+time-too-few = preceded-too-few 84 (map-too-few _ some-time-too-few)
 
 -- ---- Y, M, W, D and the time, likewise
 
@@ -96,14 +105,15 @@ weeks-tail y mo = seq-tail (opt-tail-if (part-item 87 refl refl) (λ v _. rw (or
 months-tail : (y : Option ℕ) → TailIf (SomePart (parts y none none none none)) bytes 2 SomePart (from-months y)
 months-tail y = seq-tail (opt-tail-if (part-item 77 refl refl) (λ v _. or-true (present y))) (weeks-tail y)
 
-no-part-fails : Fails (verify somePart (seq (opt (part 89)) from-months))
-unfolding verify seq opt give
-no-part-fails s at h =
-    rw (part-item 89 refl refl .fails s at h, part-item 77 refl refl .fails s at h, part-item 87 refl refl .fails s at h, part-item 68 refl refl .fails s at h, time-item .fails s at h)
+some-part-too-few : TooFew 1 (verify somePart partsRule)
+unfolding partsRule verify seq opt give
+some-part-too-few = record {
+  finds = λ s at h. rw (part-too-few 89 .finds s at h, part-too-few 77 .finds s at h, part-too-few 87 .finds s at h, part-too-few 68 .finds s at h, time-too-few .finds s at h);
+}
 
 parts-item : Item bytes isDigit 2 2 SomePart (verify somePart partsRule)
 unfolding partsRule
-parts-item = required-item somePart (part-item 89 refl refl) months-tail (λ v _. refl) no-part-fails
+parts-item = required-item somePart (part-item 89 refl refl) months-tail (λ v _. refl) (too-few-fails some-part-too-few)
 
 -- ---- `P`, and behind it some part
 
@@ -118,3 +128,8 @@ duration-bounded = duration-item .lawful .steady .bounded
 -- that changes the answer
 pub duration-begins : (s : List ℕ) (f : Found Duration) (m : Bool) → Says duration s 0 f m → Begins 3 duration s (begun f) (verdictOf m)
 duration-begins = lawful-begins (duration-item .lawful)
+
+-- a duration has three bytes at least: `P`, a digit and a letter
+pub duration-too-few : TooFew 2 duration
+unfolding duration
+duration-too-few = map-too-few _ (alike-too-few (verify-behind somePart (lit 80) (λ _. partsRule)) (then-too-few (lit-takes 80) (λ _. some-part-too-few)))

@@ -18,7 +18,7 @@ use slots::NO_SUCH_CHOICE;
 // Reads the offset that the bytes begin with.
 #[no_mangle]
 pub extern "C" fn tirozhbar_offset(s: &[u8], slots: &mut [i64]) -> u32
-    ensures { λ r. ⌜ BeginsIn 4 3 offset offsetSlots (now (s .entry)) (now (slots .entry)) (now (slots .exit)) r ⌝ }
+    ensures { λ r. ⌜ BeginsIn 4 2 offset offsetSlots (now (s .entry)) (now (slots .entry)) (now (slots .exit)) r ⌝ }
 {
     slot_readers::offset(s, slots)
 }
@@ -34,7 +34,7 @@ pub extern "C" fn tirozhbar_parse_offset(s: &[u8], slots: &mut [i64]) -> u32
 // Reads the time that the bytes begin with.
 #[no_mangle]
 pub extern "C" fn tirozhbar_time(s: &[u8], slots: &mut [i64], choices: u32) -> u32
-    ensures { λ r. ⌜ BeginsUnder 10 3 time timeSlots choices (now (s .entry)) (now (slots .entry)) (now (slots .exit)) r ⌝ }
+    ensures { λ r. ⌜ BeginsUnder 10 2 time timeSlots choices (now (s .entry)) (now (slots .entry)) (now (slots .exit)) r ⌝ }
 {
     let chosen = slots::choices_of(choices);
     match chosen {

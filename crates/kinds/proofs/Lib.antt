@@ -1,3 +1,4 @@
 pub mod As
 pub mod Laws
 pub mod Once
+pub mod Far

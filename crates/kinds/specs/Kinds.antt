@@ -38,11 +38,11 @@ choicesIn kind.Offset = document01
 choicesIn (kind.Stamp c) = c
 choicesIn kind.Duration = document01
 
--- so many bytes, or fewer, change the answer where it is open
+-- so many bytes, or fewer, change the answer where it is open, and there is an input that needs as many (`Far.antt`)
 abbrev pub bound : Kind → ℕ
 bound kind.Date = 7
-bound (kind.Time c) = 3
-bound kind.Offset = 3
+bound (kind.Time c) = 2
+bound kind.Offset = 2
 bound (kind.Stamp c) = 10
 bound kind.Duration = 3
 

@@ -11,16 +11,17 @@ use Rattle.types.specs.declared.Offset.{Offset}
 use Rattle.types.specs.Sums.{zeroOffset}
 use Rattle.parser.specs.Reading.{Found, no, got, stop, Says, lit, seq, after, alt, map, or, and}
 use Rattle.parser.specs.Answer.{begun, Begins, verdictOf}
+use Rattle.parser.specs.Digits.{isDigit}
 use Rattle.parser.specs.Fields.{hour, signed}
 use Rattle.parser.proofs.Fields.{true≢false, and-right}
 use Rattle.parser.proofs.Places.{no≢got, Bounded, lit-fails}
 use Rattle.parser.proofs.Hopeful.{Anything}
-use Rattle.parser.proofs.Leaves.{From, above-zero, signed-at-end}
+use Rattle.parser.proofs.Leaves.{From, above-zero, signed-at-end, signed-foreign}
 use Rattle.parser.proofs.Says.{says-alt-no, says-map}
-use Rattle.parser.proofs.Lawful.{byte, lawful-begins, TailIf, tail-where, map-tail, Item, map-item, alt-item, tested-tail, seq-item}
-use Rattle.parser.proofs.Stops.{lit-stops, field-stops, map-stops, verify-stops, opt-stops, alt-stops, seq-stops}
+use Rattle.parser.proofs.Lawful.{In, byte, lawful-begins, TailIf, tail-where, map-tail, Item, map-item, tested-tail, seq-item}
 use Rattle.parser.proofs.Unstopped.{Unstopped}
-use Rattle.parser.proofs.Items.{lit-mark, signed-mark, after-item, preceded-item, field-item-in}
+use Rattle.parser.proofs.Items.{lit-mark, signed-mark, or-item, preceded-item, field-item-in}
+use Rattle.parser.proofs.TooFew.{Takes, fewer-takes, lit-takes, field-takes, map-takes, verify-takes, opt-takes, alt-takes, seq-takes, preceded-takes, signed-takes, TooFew, field-too-few, seq-too-few, then-too-few}
 use Rattle.offset.specs.Rules.{allowed, offsetMinute, offsetHour, offsetZulu, offset}
 
 -- another byte than c
@@ -86,30 +87,41 @@ minute-tail minus h =
     map-tail _ (tail-where (λ f. allowed-hour minus h 0 (f .0))
     (tested-tail _ (preceded-item 58 refl refl (field-item-in 2 0 59 1 59 refl (above-zero 59 (omega arith)))) (λ m f. allowed-minute minus h m (f .0))))
 
-hour-item : Item bytes (byte 45) 3 3 Anything offsetHour
-unfolding offsetHour
-hour-item = after-item (signed-mark refl refl) (λ minus. seq-item (field-item-in 2 0 23 1 23 refl (above-zero 23 (omega arith))) (minute-tail minus))
+hour-item : (minus : Bool) → Item bytes isDigit 2 2 Anything (seq hour (offsetMinute minus))
+hour-item minus = seq-item (field-item-in 2 0 23 1 23 refl (above-zero 23 (omega arith))) (minute-tail minus)
 
-pub offset-item : Item bytes (byte 45) 3 3 Anything offset
-unfolding offset offsetZulu
-offset-item = alt-item hour-item (map-item _ (lit-mark 90 refl .item))
+-- where the input ends `Z` is an offset, and behind a sign two digits complete an hour or a minute
+pub offset-item : Item bytes (byte 90) 1 2 Anything offset
+unfolding offset offsetHour offsetZulu
+offset-item = or-item (signed-mark refl refl) (signed-foreign (In (byte 90)) (not-zulu 45 refl) (not-zulu 43 refl)) hour-item (map-item _ (lit-mark 90 refl .item))
+  where
+    not-zulu : (c : ℕ) → eqb 90 c ≡ false → (b : ℕ) → In (byte 90) b → eqb b c ≡ false
+    not-zulu c h b e = rw (eqb-true b 90 e) h
 
 pub offset-bounded : Bounded offset
 offset-bounded = offset-item .lawful .steady .bounded
 
--- what code says of the rule at the beginning is what a reader has to promise: an open offset has a continuation of at most three bytes that
+-- what code says of the rule at the beginning is what a reader has to promise: an open offset has a continuation of at most two bytes that
 -- changes the answer
-pub offset-begins : (s : List ℕ) (f : Found Offset) (m : Bool) → Says offset s 0 f m → Begins 3 offset s (begun f) (verdictOf m)
+pub offset-begins : (s : List ℕ) (f : Found Offset) (m : Bool) → Says offset s 0 f m → Begins 2 offset s (begun f) (verdictOf m)
 offset-begins = lawful-begins (offset-item .lawful)
 
--- no offset stops the reading
+-- ---- behind a sign two bytes are needed
+
+hour-too-few : TooFew 2 offsetHour
+unfolding offsetHour
+hour-too-few = then-too-few signed-takes (λ minus. seq-too-few (offsetMinute minus) (field-too-few 1 0 23))
+
+pub plus-too-few : (x : List ℕ) → length x ≤ 1 → offset .reads (43 ∷ x) 0 ≡ no
+unfolding offset offsetZulu alt map
+plus-too-few x h = rw (hour-too-few .finds (43 ∷ x) 0 (omega arith), lit-other 90 (43 ∷ x) 0 refl)
+
+-- ---- no offset stops the reading
+
+hour-takes : Takes 3 offsetHour
+unfolding offsetHour offsetMinute
+hour-takes = seq-takes signed-takes (λ minus. seq-takes (field-takes 2 0 23) (λ h. map-takes _ (verify-takes _ (opt-takes (preceded-takes 58 (field-takes 2 0 59))))))
+
 pub offset-unstopped : Unstopped offset
-unfolding offset offsetHour offsetMinute offsetZulu
-offset-unstopped =
-    alt-stops
-    (seq-stops signed-unstopped (λ minus.
-    seq-stops (field-stops 2 0 23) (λ h. map-stops _ (verify-stops _ (opt-stops (seq-stops (opt-stops (lit-stops 58)) (λ _. field-stops 2 0 59)))))))
-    (map-stops _ (lit-stops 90))
-  where
-    signed-unstopped : Unstopped signed
-    signed-unstopped = alt-stops (map-stops _ (lit-stops 45)) (map-stops _ (lit-stops 43))
+unfolding offset offsetZulu
+offset-unstopped = alt-takes (fewer-takes (omega arith) hour-takes) (map-takes _ (lit-takes 90)) .unstopped

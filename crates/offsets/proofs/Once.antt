@@ -22,7 +22,7 @@ read-of a v = record { answer = a; verdict = v }
 
 pub read-once : (s : List ℕ) (a b : OffsetRead) → offsetReads s a → offsetReads s b → a ≡ b
 unfolding read-of
-read-once s a b h k = let x = begins-once 3 offset s _ _ _ _ h k in ap₂ read-of (told-once (a .answer) (b .answer) (x .0)) (x .1)
+read-once s a b h k = let x = begins-once 2 offset s _ _ _ _ h k in ap₂ read-of (told-once (a .answer) (b .answer) (x .0)) (x .1)
 
 pub parsed-once : (s : List ℕ) (a b : OffsetAnswer) → offsetParses s a → offsetParses s b → a ≡ b
 parsed-once s a b h k = told-once a b (h ∙ sym k)

@@ -15,7 +15,7 @@ offsetTold (Refused r n) = refused (numberOf r) n
 
 -- what the two readers promise of their answers
 abbrev pub offsetReads : List ℕ → OffsetRead → Type 0
-offsetReads s r = Begins 3 offset s (offsetTold (r .answer)) (r .verdict)
+offsetReads s r = Begins 2 offset s (offsetTold (r .answer)) (r .verdict)
 
 abbrev pub offsetParses : List ℕ → OffsetAnswer → Type 0
 offsetParses s a = Ended offset s (offsetTold a)

@@ -54,12 +54,12 @@ pub hopeful-or : {W : Type 0} {A : Type 0} {k : ℕ} {F : A → Type 0} {p : Rea
 hopeful-or hp s at le h = inl (hp s at le h)
 
 -- where nothing allows them
+pub only-ends : {A : Type 0} {k : ℕ} {F : A → Type 0} {p : Reader A} {s : List ℕ} {at : ℕ} → Changes ⊥ k F p s at → Ends k AnyByte F p s at
+only-ends (inl e) = e
+only-ends (inr (w, e)) = absurd w
+
 pub never-stops : {A : Type 0} {k : ℕ} {F : A → Type 0} {p : Reader A} → HopefulOr ⊥ k F p → Hopeful k F p
-never-stops {A} {k} {F} {p} hp s at le h = go (hp s at le h)
-  where
-    go : Changes ⊥ k F p s at → Ends k AnyByte F p s at
-    go (inl e) = e
-    go (inr (w, e)) = absurd w
+never-stops hp s at le h = only-ends (hp s at le h)
 
 -- from the end of any input on
 abbrev pub Starts : {A : Type 0} → ℕ → (ℕ → Type 0) → (A → Type 0) → Reader A → Type 0
@@ -191,7 +191,8 @@ or-true : (a b : Bool) → a ≡ false → or a b ≡ true → b ≡ true
 or-true true b e h = absurd (true≢false e)
 or-true false b e h = h
 
-pub alt-hopeful : {A : Type 0} {k : ℕ} {F : A → Type 0} (p q : Reader A) → Stable p → Hopeful k F p → Hopeful k F q → Hopeful k F (alt p q)
+-- alternatives: how they end where the first is open, and the hope of the second
+pub alt-hopeful : {A : Type 0} {k : ℕ} {F : A → Type 0} (p q : Reader A) → Stable p → ((s : List ℕ) (at : ℕ) → at ≤ length s → p .more s at ≡ true → Ends k AnyByte F (alt p q) s at) → Hopeful k F q → Hopeful k F (alt p q)
 unfolding alt
 alt-hopeful {A} {k} {F} p q sp hp hq s at le h = go (p .more s at) refl
   where
@@ -203,13 +204,13 @@ alt-hopeful {A} {k} {F} p q sp hp hq s at le h = go (p .more s at) refl
     second em (got a n) ef h = absurd (true≢false (sym h))
 
     go : (m : Bool) → p .more s at ≡ m → Ends k AnyByte F (alt p q) s at
-    go true em = ends-alt p q (hp s at le em)
+    go true em = hp s at le em
     go false em = second em (p .reads s at) refl (or-true _ _ em h)
 
--- a sequence: how it ends where its first part is open, and the hope of what follows
-pub seq-hopeful : {W : Type 0} {A B : Type 0} {k : ℕ} {F : B → Type 0} (p : Reader A) (q : A → Reader B) → Stable p → Bounded p → ((s : List ℕ) (at : ℕ) → at ≤ length s → p .more s at ≡ true → Ends k AnyByte F (seq p q) s at) → ((a : A) → HopefulOr W k F (q a)) → HopefulOr W k F (seq p q)
+-- a sequence at a place: how it ends where its first part is open there, and the hope of what follows
+pub seq-hopeful : {W : Type 0} {A B : Type 0} {k : ℕ} {F : B → Type 0} (p : Reader A) (q : A → Reader B) → Stable p → Bounded p → ((a : A) → HopefulOr W k F (q a)) → (s : List ℕ) (at : ℕ) → at ≤ length s → (p .more s at ≡ true → Ends k AnyByte F (seq p q) s at) → seq p q .more s at ≡ true → Changes W k F (seq p q) s at
 unfolding seq
-seq-hopeful {W} {A} {B} {k} {F} p q sp bp hp hq s at le h = go (p .more s at) refl
+seq-hopeful {W} {A} {B} {k} {F} p q sp bp hq s at le hp h = go (p .more s at) refl
   where
     -- p is settled with a value, and what follows decides
     on : p .more s at ≡ false → (a : A) (n : ℕ) → p .reads s at ≡ got a n → Changes W k F (q a) s n → Changes W k F (seq p q) s at
@@ -222,7 +223,7 @@ seq-hopeful {W} {A} {B} {k} {F} p q sp bp hp hq s at le h = go (p .more s at) re
     second em (got a n) ef h = on em a n ef (hq a s n (bp s at le a n ef) h)
 
     go : (m : Bool) → p .more s at ≡ m → Changes W k F (seq p q) s at
-    go true em = inl (hp s at le em)
+    go true em = inl (hp em)
     go false em = second em (p .reads s at) refl (or-true _ _ em h)
 
 -- an optional item that is open at the end alone is left out there, where what follows starts with a byte that it never takes

@@ -13,15 +13,15 @@ use Rattle.parser.specs.Digits.{isDigit, field, lowest, highest, reach, 
 use Rattle.parser.specs.Fields.{signed, either, precededBy}
 use Rattle.parser.proofs.Fields.{true≢false, and-first, and-second}
 use Rattle.parser.proofs.Stable.{lit-stable, field-stable, any-growing, most-growing}
-use Rattle.parser.proofs.Places.{Foreign, lit-bounded, field-bounded, lit-fails, field-fails, run-fails, seq-fails, lit-foreign, field-foreign}
-use Rattle.parser.proofs.Ahead.{lit-ahead, field-ahead}
+use Rattle.parser.proofs.Places.{Foreign, lit-bounded, field-bounded, lit-fails, field-fails, run-fails, seq-fails, alt-fails, lit-foreign, field-foreign}
+use Rattle.parser.proofs.Least.{fewer, lit-least, field-least}
 use Rattle.parser.proofs.Stops.{no-form, too-big, lit-stops, field-stops}
-use Rattle.parser.proofs.Steady.{opt-steady, run-steady}
-use Rattle.parser.proofs.Hopeful.{Ends, AnyByte, Anything, hopeful-or, Starts, Keeps, AtEnd, definite-keeps, at-end-definite, starts-weaken, left-out-starts}
+use Rattle.parser.proofs.Steady.{Steady, opt-steady, alt-steady, seq-steady, run-steady}
+use Rattle.parser.proofs.Hopeful.{Ends, AnyByte, Anything, HopefulOr, hopeful-or, only-ends, never-stops, Starts, Keeps, AtEnd, definite-keeps, at-end-definite, ends-weaken, hopeful-weaken, starts-weaken, ends-alt, alt-hopeful, seq-hopeful, left-out-starts}
 use Rattle.parser.proofs.Leaves.{From, Narrows, lit-starts, lit-at-end, lit-hopeful, map-at-end, alt-at-end, field-hopeful-in, field-starts, field-definite}
 use Rattle.parser.proofs.RunLeaves.{fraction-hopeful, run-eager, run-starts, run-then-starts, run-then-ends}
-use Rattle.parser.proofs.General.{lit-eager, seq-eager, field-eager}
-use Rattle.parser.proofs.Lawful.{most, In, byte, member, Outside, told-apart, outside-digit, outside-other, seq-lawful, Item, ItemOr, forget, map-item, alt-item, then-item}
+use Rattle.parser.proofs.General.{lit-eager, alt-eager, seq-eager, field-eager}
+use Rattle.parser.proofs.Lawful.{most, most-left, most-right, In, byte, member, Outside, told-apart, outside-digit, outside-other, seq-lawful, Item, ItemOr, forget, map-item, alt-item, then-item}
 
 -- ---- single bytes: items that are open at the end of the input alone
 
@@ -32,7 +32,7 @@ pub record Mark {A : Type 0} (l : List ℕ) (c : ℕ) (p : Reader A) : Type 0 wh
 pub lit-mark : {l : List ℕ} (c : ℕ) → member l c ≡ true → Mark l c (lit c)
 lit-mark {l} c h = record {
   item = record {
-    lawful = record { steady = record { stable = lit-stable c; bounded = lit-bounded c; ahead = lit-ahead c; foreign = lit-foreign (Outside l) c (outside-other l c h); numbered = lit-stops c }; hopeful = hopeful-or (lit-hopeful c) };
+    lawful = record { steady = record { stable = lit-stable c; bounded = lit-bounded c; ahead = fewer (omega arith) (lit-least c); foreign = lit-foreign (Outside l) c (outside-other l c h); numbered = lit-stops c }; hopeful = hopeful-or (lit-hopeful c) };
     fails = lit-fails c;
     eager = lit-eager c;
     starts = lit-starts c;
@@ -55,6 +55,39 @@ signed-mark h g = alt-mark (map-mark (λ _. true) (lit-mark 45 h)) (map-mark (λ
 -- a byte and what must follow it
 pub after-item : {W : Type 0} {A B : Type 0} {l : List ℕ} {c : ℕ} {Z : ℕ → Bool} {k n : ℕ} {F : B → Type 0} {p : Reader A} {q : A → Reader B} → Mark l c p → ((a : A) → ItemOr W l Z k n F (q a)) → ItemOr W l (byte c) (1 + k) (most (1 + k) n) F (seq p q)
 after-item {Z = Z} {p = p} hp hq = then-item (definite-keeps (In Z) p (hp .item .lawful .steady .stable) (at-end-definite p (hp .at-end) (hp .item .fails))) (hp .item) hq
+
+-- a byte and what must follow it, or else an item that starts with another byte: where the input ends, that is the one that is started
+pub or-item : {A B : Type 0} {l : List ℕ} {c : ℕ} {Y Z : ℕ → Bool} {i j k n : ℕ} {F : B → Type 0} {p : Reader A} {q : A → Reader B} {r : Reader B} → Mark l c p → Foreign (In Z) p → ((a : A) → Item l Y i j F (q a)) → Item l Z k n F r → Item l Z k (most (most k j) n) F (alt (seq p q) r)
+unfolding seq alt
+or-item {A} {B} {l} {Z = Z} {j = j} {k = k} {n = n} {F = F} {p = p} {q = q} {r = r} hp other hq hr = record {
+  lawful = record {
+    steady = alt-steady first (hr .lawful .steady);
+    hopeful = hopeful-or (alt-hopeful (seq p q) r (first .stable) ends (never-stops (hopeful-weaken (most (most k j) n) F r (λ w. w) (most-right (most k j) n) (λ b f. f) (hr .lawful .hopeful))));
+  };
+  fails = alt-fails (seq p q) r (seq-fails p q (hp .item .fails)) (hr .fails);
+  eager = alt-eager (seq p q) r (seq-eager p q (hp .item .eager));
+  starts = begun;
+}
+  where
+    first : Steady (Outside l) (seq p q)
+    first = seq-steady (hp .item .lawful .steady) (λ a. hq a .lawful .steady)
+
+    begun : Starts k (In Z) F (alt (seq p q) r)
+    begun s =
+        let e = hr .starts s in
+        record { first = e .first; rest = e .rest; value = e .value; begins = e .begins; few = e .few; fact = e .fact; reads = rw (other s (e .first) (e .rest) (length s) (e .begins) (omega arith), hp .item .fails s (length s) (omega arith)) (e .reads) }
+
+    on : (a : A) → HopefulOr ⊥ (most (most k j) n) F (q a)
+    on a = hopeful-weaken (most (most k j) n) F (q a) (λ w. w) (omega (arith, most-right k j, most-left (most k j) n)) (λ b f. f) (hq a .lawful .hopeful)
+
+    ends : (s : List ℕ) (at : ℕ) → at ≤ length s → seq p q .more s at ≡ true → Ends (most (most k j) n) AnyByte F (alt (seq p q) r) s at
+    ends s at le h = go (p .more s at) refl
+      where
+        go : (m : Bool) → p .more s at ≡ m → Ends (most (most k j) n) AnyByte F (alt (seq p q) r) s at
+        go true em =
+            let here : length s ≡ at = omega (arith, hp .at-end s at em) in
+            rw (← here) (ends-weaken (most (most k j) n) AnyByte F (omega (arith, most-left k j, most-left (most k j) n)) (λ b i. tt) (λ b f. f) (begun s))
+        go false em = ends-alt (seq p q) r (only-ends (seq-hopeful p q (hp .item .lawful .steady .stable) (hp .item .lawful .steady .bounded) on s at le (λ e. absurd (true≢false (sym e ∙ em))) h))
 
 -- an optional byte in front is left out where the input ends, if what follows starts with another
 pub left-out-item : {W : Type 0} {A B : Type 0} {l : List ℕ} {c : ℕ} {Z : ℕ → Bool} {k n : ℕ} {F : B → Type 0} {p : Reader A} {q : Option A → Reader B} → Mark l c p → Foreign (In Z) p → ((o : Option A) → ItemOr W l Z k n F (q o)) → ItemOr W l Z k (most k n) F (seq (opt p) q)
@@ -107,7 +140,7 @@ pub field-item-in : {l : List ℕ} (n lo hi lo′ hi′ : ℕ) → and (leb lo l
 field-item-in zero lo hi lo′ hi′ h narrows = absurd (true≢false (sym (and-second (leb hi′ hi) (and-second (leb lo lo′) h))))
 field-item-in {l} (suc n) lo hi lo′ hi′ h narrows = record {
   lawful = record {
-    steady = record { stable = field-stable (suc n) lo hi; bounded = field-bounded (suc n) lo hi; ahead = field-ahead (suc n) lo hi; foreign = field-foreign (Outside l) (suc n) lo hi (outside-digit l); numbered = field-stops (suc n) lo hi };
+    steady = record { stable = field-stable (suc n) lo hi; bounded = field-bounded (suc n) lo hi; ahead = fewer (omega arith) (field-least (suc n) lo hi); foreign = field-foreign (Outside l) (suc n) lo hi (outside-digit l); numbered = field-stops (suc n) lo hi };
     hopeful = hopeful-or (field-hopeful-in (suc n) lo hi lo′ hi′ a b ab narrows);
   };
   fails = field-fails (suc n) lo hi (omega arith);

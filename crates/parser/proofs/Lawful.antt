@@ -104,7 +104,7 @@ opt-lawful : {A : Type 0} {l : List ℕ} {k : ℕ} {E : A → Type 0} {F : Optio
 opt-lawful {F = F} {p = p} g hp = record { steady = opt-steady (hp .steady); hopeful = hopeful-or (opt-hopeful F p g (never-stops (hp .hopeful))) }
 
 alt-lawful : {A : Type 0} {l : List ℕ} {j k : ℕ} {F : A → Type 0} {p q : Reader A} → Lawful l j F p → Lawful l k F q → Lawful l (most j k) F (alt p q)
-alt-lawful {A} {l} {j} {k} {F} {p} {q} hp hq = record { steady = alt-steady (hp .steady) (hq .steady); hopeful = hopeful-or (alt-hopeful p q (hp .steady .stable) first second) }
+alt-lawful {A} {l} {j} {k} {F} {p} {q} hp hq = record { steady = alt-steady (hp .steady) (hq .steady); hopeful = hopeful-or (alt-hopeful p q (hp .steady .stable) (λ s at le h. ends-alt p q (first s at le h)) second) }
   where
     first : Hopeful (most j k) F p
     first = never-stops (hopeful-weaken (most j k) F p (λ w. w) (most-left j k) (λ a f. f) (hp .hopeful))
@@ -116,7 +116,7 @@ alt-lawful {A} {l} {j} {k} {F} {p} {q} hp hq = record { steady = alt-steady (hp 
 pub seq-lawful : {W : Type 0} {A B : Type 0} {l : List ℕ} {j k : ℕ} {F : B → Type 0} {p : Reader A} {q : A → Reader B} → Steady (Outside l) p → ((s : List ℕ) (at : ℕ) → at ≤ length s → p .more s at ≡ true → Ends j AnyByte F (seq p q) s at) → ((a : A) → LawfulOr W l k F (q a)) → LawfulOr W l (most j k) F (seq p q)
 seq-lawful {j = j} {k = k} {F = F} {p = p} {q = q} hp ends hq = record {
   steady = seq-steady hp (λ a. hq a .steady);
-  hopeful = seq-hopeful p q (hp .stable) (hp .bounded) (λ s at le h. ends-weaken (most j k) AnyByte F (most-left j k) (λ c x. x) (λ b f. f) (ends s at le h)) (λ a. hopeful-weaken (most j k) F (q a) (λ w. w) (most-right j k) (λ b f. f) (hq a .hopeful));
+  hopeful = λ s at le. seq-hopeful p q (hp .stable) (hp .bounded) (λ a. hopeful-weaken (most j k) F (q a) (λ w. w) (most-right j k) (λ b f. f) (hq a .hopeful)) s at le (λ h. ends-weaken (most j k) AnyByte F (most-left j k) (λ c x. x) (λ b f. f) (ends s at le h));
 }
 
 -- so what code says of a part at the beginning is what a reader has to promise
@@ -235,7 +235,7 @@ alike-item {p = p} {q = q} e hq = record {
     steady = record {
       stable = λ s x at h. let g = hq .lawful .steady .stable s x at (sym (e s at .more) ∙ h) in record { reads = e (s ++ x) at .reads ∙ g .reads ∙ sym (e s at .reads); more = e (s ++ x) at .more ∙ g .more };
       bounded = λ s at le a n h. hq .lawful .steady .bounded s at le a n (sym (e s at .reads) ∙ h);
-      ahead = λ s at a n h. hq .lawful .steady .ahead s at a n (sym (e s at .reads) ∙ h);
+      ahead = record { takes = λ s at a n h. hq .lawful .steady .ahead .takes s at a n (sym (e s at .reads) ∙ h) };
       foreign = λ s c y at x le. e (s ++ c ∷ y) at .reads ∙ hq .lawful .steady .foreign s c y at x le ∙ sym (e s at .reads);
       numbered = record { by = λ s at r h. hq .lawful .steady .numbered .by s at r (sym (e s at .reads) ∙ h) };
     };

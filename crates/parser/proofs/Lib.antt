@@ -2,7 +2,7 @@ pub mod Fields
 pub mod Runs
 pub mod Stable
 pub mod Places
-pub mod Ahead
+pub mod Least
 pub mod Stops
 pub mod Steady
 pub mod Hopeful
@@ -16,3 +16,4 @@ pub mod Lawful
 pub mod Items
 pub mod Stricter
 pub mod Unstopped
+pub mod TooFew

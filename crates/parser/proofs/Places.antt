@@ -29,8 +29,9 @@ got-place e = cc
 pub got-value : {A : Type 0} {a b : A} {m n : ℕ} → got a m ≡ got b n → a ≡ b
 got-value e = cc
 
--- what a run was read as, and that it may have its number
+-- what a run was read as, that it has a digit, and that it may have its number
 pub record RunFound {A : Type 0} (f : List ℕ → A) (may : ℕ → Bool) (s : List ℕ) (at : ℕ) (a : A) (n : ℕ) : Type 0 where
+  pub some : 1 ≤ length (runAt s at)
   pub may-be : may (number (runAt s at)) ≡ true
   pub value : f (runAt s at) ≡ a
   pub place : at + length (runAt s at) ≡ n
@@ -39,13 +40,13 @@ pub run-found : {A : Type 0} (f : List ℕ → A) (may : ℕ → Bool) (r : ℕ)
 unfolding runAs
 run-found {A} f may r s at a n e = go (runAt s at) refl e
   where
-    fits : (d : List ℕ) → runAt s at ≡ d → (t : Bool) → may (number d) ≡ t → pick t (got (f d) (at + length d)) (stop r) ≡ got a n → RunFound f may s at a n
-    fits d ed true em e = record { may-be = rw ed em; value = rw ed (got-value e); place = rw ed (got-place e) }
-    fits d ed false em e = absurd (stop≢got e)
+    fits : (d : List ℕ) → runAt s at ≡ d → 1 ≤ length d → (t : Bool) → may (number d) ≡ t → pick t (got (f d) (at + length d)) (stop r) ≡ got a n → RunFound f may s at a n
+    fits d ed h true em e = record { some = rw ed h; may-be = rw ed em; value = rw ed (got-value e); place = rw ed (got-place e) }
+    fits d ed h false em e = absurd (stop≢got e)
 
     go : (d : List ℕ) → runAt s at ≡ d → ofRun d no (pick (may (number d)) (got (f d) (at + length d)) (stop r)) ≡ got a n → RunFound f may s at a n
     go [] ed e = absurd (no≢got e)
-    go (b ∷ d) ed e = fits (b ∷ d) ed (may (number (b ∷ d))) refl e
+    go (b ∷ d) ed e = fits (b ∷ d) ed (omega arith) (may (number (b ∷ d))) refl e
 
 pub map-no : {A B : Type 0} (f : A → B) (x : Found A) → mapFound f x ≡ no → x ≡ no
 map-no f no e = refl

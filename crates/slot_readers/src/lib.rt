@@ -20,7 +20,7 @@ const NO_VERDICT: i64 = -1;
 
 // Reads the offset that the bytes begin with.
 pub fn offset(s: &[u8], slots: &mut [i64]) -> u32
-    ensures { λ r. ⌜ BeginsIn 4 3 offset offsetSlots (now (s .entry)) (now (slots .entry)) (now (slots .exit)) r ⌝ }
+    ensures { λ r. ⌜ BeginsIn 4 2 offset offsetSlots (now (s .entry)) (now (slots .entry)) (now (slots .exit)) r ⌝ }
 {
     if slots.len() < 4 {
         return TOO_FEW;
@@ -51,7 +51,7 @@ pub fn parse_offset(s: &[u8], slots: &mut [i64]) -> u32
 
 // Reads the time that the bytes begin with.
 pub fn time(s: &[u8], slots: &mut [i64], choices: Choices) -> u32
-    ensures { λ r. ⌜ BeginsIn 10 3 (time choices) timeSlots (now (s .entry)) (now (slots .entry)) (now (slots .exit)) r ⌝ }
+    ensures { λ r. ⌜ BeginsIn 10 2 (time choices) timeSlots (now (s .entry)) (now (slots .entry)) (now (slots .exit)) r ⌝ }
 {
     if slots.len() < 10 {
         return TOO_FEW;

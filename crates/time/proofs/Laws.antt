@@ -25,6 +25,7 @@ use Rattle.parser.proofs.Steady.{Steady, map-steady, must-steady, opt-steady, a
 use Rattle.parser.proofs.Stricter.{stricter-hopeful}
 use Rattle.parser.proofs.Lawful.{byte, Outside, outside-digit, lawful-begins, Tail, TailOr, tail-or, map-tail, seq-tail, Item, ItemOr, widen, map-item, alt-item, opt-tail, seq-item}
 use Rattle.parser.proofs.Items.{lit-mark, either-mark, after-item, preceded-item, field-item, fraction-item}
+use Rattle.parser.proofs.TooFew.{TooFew, field-too-few, seq-too-few, preceded-too-few}
 use Rattle.offset.proofs.Laws.{offset-item}
 use Rattle.time.specs.declared.Clock.{Clock}
 use Rattle.time.specs.declared.TimeUnit.{TimeUnit}
@@ -56,11 +57,11 @@ unfolding behindHour
 behind-item Old = minute-item Old
 behind-item Standard = alt-item (minute-item Standard) (point-item Hour 0 0)
 
-offset-tail : (h : ℕ) (k : Clock) → Tail bytes 3 (timeOffset h k)
+offset-tail : (h : ℕ) (k : Clock) → Tail bytes 2 (timeOffset h k)
 unfolding timeOffset
 offset-tail h k = map-tail _ (opt-tail (widen refl offset-item))
 
-after-hour-tail : (r : Reading) (h : ℕ) → Tail bytes 3 (afterHour r false h)
+after-hour-tail : (r : Reading) (h : ℕ) → Tail bytes 2 (afterHour r false h)
 unfolding afterHour
 after-hour-tail r h = seq-tail (opt-tail (behind-item r)) (λ k. offset-tail h (orWhole 0 0 k))
 
@@ -94,7 +95,7 @@ unfolding behindHour
 behind-fails Old = minute-fails Old
 behind-fails Standard = alt-fails (minuteSecondMillisecond Standard true) (timeFraction Hour true 0 0) (minute-fails Standard) (λ s at h. no-fraction Hour true 0 0 s at (mark-fails s at h))
 
-end-of-day-tail : {W : Type 0} → W → (r : Reading) (h : ℕ) → TailOr W Unit bytes 3 Anything (afterHour r true h)
+end-of-day-tail : {W : Type 0} → W → (r : Reading) (h : ℕ) → TailOr W Unit bytes 2 Anything (afterHour r true h)
 unfolding afterHour
 end-of-day-tail w r h = record {
   lawful = record {
@@ -115,20 +116,20 @@ hour-item : (e : Edition) → Item bytes isDigit 2 2 Anything (hourOf e)
 hour-item E2019 = field-item 2 0 23 refl
 hour-item E2004 = field-item 2 0 24 refl
 
-tail-of : (e : Edition) (r : Reading) (h : ℕ) → TailOr (MayStop e) Unit bytes 3 Anything (afterHour r (endsDay e h) h)
+tail-of : (e : Edition) (r : Reading) (h : ℕ) → TailOr (MayStop e) Unit bytes 2 Anything (afterHour r (endsDay e h) h)
 tail-of E2019 r h = after-hour-tail r h
 tail-of E2004 r h = go (eqb h 24)
   where
-    go : (z : Bool) → TailOr (MayStop E2004) Unit bytes 3 Anything (afterHour r z h)
+    go : (z : Bool) → TailOr (MayStop E2004) Unit bytes 2 Anything (afterHour r z h)
     go true = end-of-day-tail tt r h
     go false = tail-or (after-hour-tail r h)
 
 -- two digits are a time
-pub base-time-item : (c : Choices) → ItemOr (MayStop (c .edition)) bytes isDigit 2 3 Anything (baseTime c)
+pub base-time-item : (c : Choices) → ItemOr (MayStop (c .edition)) bytes isDigit 2 2 Anything (baseTime c)
 unfolding baseTime
 base-time-item c = seq-item (hour-item (c .edition)) (tail-of (c .edition) (c .reading))
 
-pub time-item : (c : Choices) → ItemOr (MayStop (c .edition)) bytes isDigit 2 3 Anything (time c)
+pub time-item : (c : Choices) → ItemOr (MayStop (c .edition)) bytes isDigit 2 2 Anything (time c)
 unfolding time
 time-item c = preceded-item 84 refl refl (base-time-item c)
 
@@ -141,7 +142,21 @@ base-time-eager c = base-time-item c .eager
 pub time-bounded : (c : Choices) → Bounded (time c)
 time-bounded c = time-item c .lawful .steady .bounded
 
--- what code says of the rule at the beginning is what a reader has to promise: an open time has a continuation of at most three bytes that
+-- what code says of the rule at the beginning is what a reader has to promise: an open time has a continuation of at most two bytes that
 -- changes the answer
-pub time-begins : (c : Choices) (s : List ℕ) (f : Found Time) (m : Bool) → Says (time c) s 0 f m → Begins 3 (time c) s (begun f) (verdictOf m)
+pub time-begins : (c : Choices) (s : List ℕ) (f : Found Time) (m : Bool) → Says (time c) s 0 f m → Begins 2 (time c) s (begun f) (verdictOf m)
 time-begins c = lawful-begins (time-item c .lawful)
+
+-- ---- a time has two bytes at least
+
+pub base-time-too-few : (c : Choices) → TooFew 1 (baseTime c)
+unfolding baseTime
+base-time-too-few c = seq-too-few _ (hour-too-few (c .edition))
+  where
+    hour-too-few : (e : Edition) → TooFew 1 (hourOf e)
+    hour-too-few E2019 = field-too-few 1 0 23
+    hour-too-few E2004 = field-too-few 1 0 24
+
+pub time-too-few : (c : Choices) → TooFew 1 (time c)
+unfolding time
+time-too-few c = preceded-too-few 84 (base-time-too-few c)

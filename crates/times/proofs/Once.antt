@@ -23,7 +23,7 @@ read-of a v = record { answer = a; verdict = v }
 
 pub read-once : (c : Choices) (s : List ℕ) (a b : TimeRead) → timeReads c s a → timeReads c s b → a ≡ b
 unfolding read-of
-read-once c s a b h k = let x = begins-once 3 (time c) s _ _ _ _ h k in ap₂ read-of (told-once (a .answer) (b .answer) (x .0)) (x .1)
+read-once c s a b h k = let x = begins-once 2 (time c) s _ _ _ _ h k in ap₂ read-of (told-once (a .answer) (b .answer) (x .0)) (x .1)
 
 pub parsed-once : (c : Choices) (s : List ℕ) (a b : TimeAnswer) → timeParses c s a → timeParses c s b → a ≡ b
 parsed-once c s a b h k = told-once a b (h ∙ sym k)

@@ -16,7 +16,7 @@ timeTold (Refused r n) = refused (numberOf r) n
 
 -- what the two readers promise of their answers
 abbrev pub timeReads : Choices → List ℕ → TimeRead → Type 0
-timeReads c s r = Begins 3 (time c) s (timeTold (r .answer)) (r .verdict)
+timeReads c s r = Begins 2 (time c) s (timeTold (r .answer)) (r .verdict)
 
 abbrev pub timeParses : Choices → List ℕ → TimeAnswer → Type 0
 timeParses c s a = Ended (time c) s (timeTold a)

@@ -9,7 +9,7 @@ use Rattle.types.specs.declared.Fraction.{Fraction}
 use Rattle.parser.specs.Reading.{Found, Reader, Says, no, got, stop, seq, mapFound}
 use Rattle.parser.specs.Fields.{either}
 use Rattle.parser.specs.Digits.{fractionOf}
-use Rattle.parser.proofs.Ahead.{run-ahead}
+use Rattle.parser.proofs.Least.{run-least}
 use Rattle.parser.proofs.Places.{run-found}
 use Rattle.runs.proofs.Nanoseconds.{nanoseconds-small}
 use Rattle.parser.proofs.Says.{says-map, says-seq-got, says-seq-no}
@@ -52,7 +52,7 @@ sub-fraction-of c =
     let d = c .before in
     let a = d .before .before .before .before .before .before .before .before .args in
     let frac = rw (d .fraction .given .1) at (d .before .before .fraction-at .ensures) in
-    run-ahead fractionOf (numbersIf (a .zero)) 1 (a .s .now) _ _ _ (sym (frac .found))
+    omega (arith, run-least fractionOf (numbersIf (a .zero)) 1 .takes (a .s .now) _ _ _ (sym (frac .found)))
 
 returns : tie.Need-returns
 returns c =

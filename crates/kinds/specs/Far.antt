@@ -1,0 +1,33 @@
+-- Request W11: how far away another answer is.
+use Prim.Native.Nat.{ℕ, _≤_, _<_}
+use mathlib.Core.List.{List, [], _∷_, _++_}
+use mathlib.Core.Path.{_≡_}
+use lib.ListN.{length}
+use Rattle.parser.specs.Answer.{Told, begun}
+use Rattle.kinds.specs.declared.answer.Kind.{Kind}
+use Rattle.kinds.specs.declared.answer.Kind.the-variants as kind
+use Rattle.kinds.specs.declared.answer.Record.{Record}
+use Rattle.kinds.specs.Kinds.{ruleOf}
+
+-- the beginning reader's answer: number, record and count
+abbrev pub answerOf : Kind → List ℕ → Told Record
+answerOf k s = begun (ruleOf k .reads s 0)
+
+-- "a continuation of at most ten bytes that changes the answer": of at most n
+pub record Near (n : ℕ) (k : Kind) (s : List ℕ) : Type 0 where
+  pub more : List ℕ
+  pub few : length more ≤ n
+  pub another : answerOf k (s ++ more) ≡ answerOf k s → ⊥
+
+-- "and that ten is needed: an empty date-time has none shorter": an input that needs n
+pub record Needs (n : ℕ) (k : Kind) (s : List ℕ) : Type 0 where
+  pub near : Near n k s
+  pub none-shorter : (x : List ℕ) → length x < n → answerOf k (s ++ x) ≡ answerOf k s
+
+-- an input of each kind that needs as many as any: a `+`, since a `Z` alone is an offset; of the others the empty one
+abbrev pub farthest : Kind → List ℕ
+farthest kind.Date = []
+farthest (kind.Time c) = []
+farthest kind.Offset = 43 ∷ []
+farthest (kind.Stamp c) = []
+farthest kind.Duration = []
