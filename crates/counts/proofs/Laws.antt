@@ -3,18 +3,20 @@ use Prim.Native.Nat.{ℕ, zero, suc, _+_, _≤_, _<_}
 use mathlib.Core.Bool.{Bool, true, false}
 use mathlib.Core.List.{List, [], _∷_, _++_}
 use mathlib.Core.Option.{Option, some, none}
-use mathlib.Core.Path.{_≡_, refl, sym, _∙_}
+use mathlib.Core.Path.{_≡_, refl, sym, ap, ap₂, _∙_}
 use native.Mathlib.Omega.{arith}
-use lib.Dec.{eqb, ltb}
-use lib.ListN.{length, take}
-use borrow.Author.Tests.{lt-ltb, le-ltb, ne-eqb}
-use Rattle.types.specs.Sums.{largest}
-use Rattle.parser.specs.Reading.{Found, no, got, stop, and, pick}
+use lib.Dec.{leb, eqb, ltb}
+use lib.ListN.{length, getD, set, take}
+use borrow.Author.Tests.{ltb-true, ltb-false, leb-true, leb-false, lt-ltb, eq-eqb, ne-eqb}
+use Rattle.types.specs.Sums.{largest, sumOrOver}
+use Rattle.types.specs.declared.InSeconds.the-variants.{Over}
+use Rattle.parser.specs.Reading.{Found, no, got, stop, pick}
 use Rattle.parser.specs.Answer.{begun, ended}
+use Rattle.parser.proofs.Fields.{and-right}
 use Rattle.kinds.specs.declared.answer.Record.{Record}
 use Rattle.reply.specs.Line.{plainHead}
 use Rattle.reply.proofs.Asked.{said-clip}
-use Rattle.counts.specs.Counts.{Line, lineIn, lineOf, howMany, isAt, isBad, rowIn, tableOf, badOf, adds, secondsInAll}
+use Rattle.counts.specs.Counts.{Line, lineIn, lineOf, howMany, isAt, isBad, listOf, rowIn, tableOf, badOf, adds, secondsInAll, Passes}
 use Rattle.counts.specs.Seen.{wholly, seen, more, raisedIn, raised, counted, badCounted}
 
 -- what the first 205 bytes of a line are, or more of them, the line is
@@ -28,9 +30,27 @@ ended-wholly all no = refl
 ended-wholly all (got v n) = refl
 ended-wholly all (stop r) = refl
 
+-- ---- lists by their places
+
+list-same : {A : Type 0} (n : ℕ) (f g : ℕ → A) → ((i : ℕ) → i < n → f i ≡ g i) → listOf n f ≡ listOf n g
+list-same zero f g h = refl
+list-same (suc n) f g h = ap₂ (λ a l. a ∷ l) (h 0 (omega arith)) (list-same n (λ i. f (suc i)) (λ i. g (suc i)) (λ i e. h (suc i) (omega arith)))
+
+list-get : {A : Type 0} (n : ℕ) (f : ℕ → A) (i : ℕ) (d : A) → i < n → getD (listOf n f) i d ≡ f i
+list-get zero f i d h = absurd (omega arith)
+list-get (suc n) f zero d h = refl
+list-get (suc n) f (suc i) d h = list-get n (λ j. f (suc j)) i d (omega arith)
+
+list-set : {A : Type 0} (n : ℕ) (f g : ℕ → A) (i : ℕ) (a : A) → (i < n → a ≡ g i) → ((j : ℕ) → j < n → (j ≡ i → ⊥) → f j ≡ g j) → set (listOf n f) i a ≡ listOf n g
+list-set zero f g i a own other = refl
+list-set (suc n) f g zero a own other = ap₂ (λ b l. b ∷ l) (own (omega arith)) (list-same n (λ j. f (suc j)) (λ j. g (suc j)) (λ j h. other (suc j) (omega arith) (λ e. omega arith)))
+list-set (suc n) f g (suc i) a own other =
+    ap₂ (λ b l. b ∷ l) (other 0 (omega arith) (λ e. omega arith))
+    (list-set n (λ j. f (suc j)) (λ j. g (suc j)) i a (λ h. own (omega arith)) (λ j h e. other (suc j) (omega arith) (λ c. e (omega arith))))
+
 -- ---- how many
 
-pub many-few : (f : Option Line → Bool) (ls : List (List ℕ)) → howMany f ls ≤ length ls
+many-few : (f : Option Line → Bool) (ls : List (List ℕ)) → howMany f ls ≤ length ls
 unfolding howMany
 many-few f [] = omega arith
 many-few f (l ∷ ls) = go (f (lineOf l)) (many-few f ls)
@@ -51,63 +71,52 @@ many-then f (k ∷ ls) l = go (f (lineOf k)) (f (lineOf l)) (many-then f ls l)
     go false true h = h
     go false false h = h
 
-pick-under : {A B : Type 0} (f : A → B) (t : Bool) (a b : A) → pick t (f a) (f b) ≡ f (pick t a b)
-pick-under f true a b = refl
-pick-under f false a b = refl
-
 module _ (ls : List (List ℕ)) (l : List ℕ) (few : length ls < largest) where
   -- a count of so few lines is exact
   more-one : (f : Option Line → Bool) → more (howMany f ls) ≡ howMany f ls + 1
   more-one f = rw (lt-ltb (howMany f ls) largest (omega (arith, many-few f ls)))
 
-  -- what no place of a row takes leaves the row as it is
-  row-stays : (i : ℕ) → ((j : ℕ) → isAt i j (lineOf l) ≡ false) → rowIn (ls ++ l ∷ []) i ≡ rowIn ls i
-  row-stays i apart = rw (stays 0, stays 1, stays 2, stays 3)
-    where
-      stays : (j : ℕ) → howMany (isAt i j) (ls ++ l ∷ []) ≡ howMany (isAt i j) ls
-      stays j = rw (apart j) at (many-then (isAt i j) ls l)
+  -- the count at a line's place is raised, and any other stays
+  raises : (i j : ℕ) → isAt i j (lineOf l) ≡ true → howMany (isAt i j) (ls ++ l ∷ []) ≡ more (howMany (isAt i j) ls)
+  raises i j e = rw e at (many-then (isAt i j) ls l) ∙ sym (more-one (isAt i j))
 
-  rows-stay : ((i j : ℕ) → i < 5 → isAt i j (lineOf l) ≡ false) → tableOf (ls ++ l ∷ []) ≡ tableOf ls
-  rows-stay apart =
-      rw (row-stays 0 (λ j. apart 0 j (omega arith)), row-stays 1 (λ j. apart 1 j (omega arith)), row-stays 2 (λ j. apart 2 j (omega arith)), row-stays 3 (λ j. apart 3 j (omega arith)), row-stays 4 (λ j. apart 4 j (omega arith)))
+  stays : (i j : ℕ) → isAt i j (lineOf l) ≡ false → howMany (isAt i j) (ls ++ l ∷ []) ≡ howMany (isAt i j) ls
+  stays i j e = rw e at (many-then (isAt i j) ls l)
+
+  row-stays : (i : ℕ) → ((j : ℕ) → j < 4 → isAt i j (lineOf l) ≡ false) → rowIn (ls ++ l ∷ []) i ≡ rowIn ls i
+  row-stays i apart = list-same 4 _ _ (λ j h. stays i j (apart j h))
+
+  rows-stay : ((i j : ℕ) → i < 5 → j < 4 → isAt i j (lineOf l) ≡ false) → tableOf (ls ++ l ∷ []) ≡ tableOf ls
+  rows-stay apart = list-same 5 _ _ (λ i h. row-stays i (λ j g. apart i j h g))
 
   module _ (x : Line) (is : lineOf l ≡ some x) where
-    entry : (i j : ℕ) → howMany (isAt i j) (ls ++ l ∷ []) ≡ pick (and (eqb (x .row) i) (eqb (x .told .number) j)) (howMany (isAt i j) ls + 1) (howMany (isAt i j) ls)
-    entry i j = rw is at (many-then (isAt i j) ls l)
+    other-row : (i j : ℕ) → (i ≡ x .row → ⊥) → isAt i j (lineOf l) ≡ false
+    other-row i j h = rw (is, ne-eqb (x .row) i (λ e. h (sym e)))
 
-    other-row : (i : ℕ) → eqb (x .row) i ≡ false → rowIn (ls ++ l ∷ []) i ≡ rowIn ls i
-    other-row i e = row-stays i (λ j. rw (is, e))
+    other-answer : (i j : ℕ) → (j ≡ x .told .number → ⊥) → isAt i j (lineOf l) ≡ false
+    other-answer i j h = rw (is, ne-eqb (x .told .number) j (λ e. h (sym e))) (and-right (eqb (x .row) i) refl)
 
-    same-row : (i j : ℕ) → eqb (x .row) i ≡ true → x .told .number ≡ j → rowIn (ls ++ l ∷ []) i ≡ pick (ltb j 4) (raisedIn j (rowIn ls i)) (rowIn ls i)
-    same-row i zero e n = rw (entry i 0, entry i 1, entry i 2, entry i 3, e, n, more-one (isAt i 0))
-    same-row i (suc zero) e n = rw (entry i 0, entry i 1, entry i 2, entry i 3, e, n, more-one (isAt i 1))
-    same-row i (suc (suc zero)) e n = rw (entry i 0, entry i 1, entry i 2, entry i 3, e, n, more-one (isAt i 2))
-    same-row i (suc (suc (suc zero))) e n = rw (entry i 0, entry i 1, entry i 2, entry i 3, e, n, more-one (isAt i 3))
-    same-row i (suc (suc (suc (suc j)))) e n =
-        let past = suc (suc (suc (suc j))) in
-        rw (entry i 0, entry i 1, entry i 2, entry i 3, e, n, ne-eqb past 0 (λ h. omega arith), ne-eqb past 1 (λ h. omega arith), ne-eqb past 2 (λ h. omega arith), ne-eqb past 3 (λ h. omega arith), le-ltb past 4 (omega arith))
+    own : isAt (x .row) (x .told .number) (lineOf l) ≡ true
+    own = rw (is, eq-eqb (x .row) (x .row) refl, eq-eqb (x .told .number) (x .told .number) refl)
+
+    row-raised : x .told .number < 4 → raisedIn (x .told .number) (rowIn ls (x .row)) ≡ rowIn (ls ++ l ∷ []) (x .row)
+    row-raised h =
+        list-set 4 (λ j. howMany (isAt (x .row) j) ls) (λ j. howMany (isAt (x .row) j) (ls ++ l ∷ [])) (x .told .number) _
+        (λ _. ap more (list-get 4 (λ j. howMany (isAt (x .row) j) ls) (x .told .number) 0 h) ∙ sym (raises (x .row) (x .told .number) own))
+        (λ j _ e. sym (stays (x .row) j (other-answer (x .row) j e)))
 
     -- the row that is raised is the line's, and every other stays
-    rows-then : (i j : ℕ) → x .row ≡ i → x .told .number ≡ j → raised i j (tableOf ls) ≡ tableOf (ls ++ l ∷ [])
+    rows-then : raised (x .row) (x .told .number) (tableOf ls) ≡ tableOf (ls ++ l ∷ [])
     unfolding raised
-    rows-then zero j e n =
-        pick-under (λ (r : List ℕ). r ∷ rowIn ls 1 ∷ rowIn ls 2 ∷ rowIn ls 3 ∷ rowIn ls 4 ∷ []) (ltb j 4) _ _
-        ∙ sym (rw (same-row 0 j (rw e) n, other-row 1 (rw e), other-row 2 (rw e), other-row 3 (rw e), other-row 4 (rw e)))
-    rows-then (suc zero) j e n =
-        pick-under (λ (r : List ℕ). rowIn ls 0 ∷ r ∷ rowIn ls 2 ∷ rowIn ls 3 ∷ rowIn ls 4 ∷ []) (ltb j 4) _ _
-        ∙ sym (rw (other-row 0 (rw e), same-row 1 j (rw e) n, other-row 2 (rw e), other-row 3 (rw e), other-row 4 (rw e)))
-    rows-then (suc (suc zero)) j e n =
-        pick-under (λ (r : List ℕ). rowIn ls 0 ∷ rowIn ls 1 ∷ r ∷ rowIn ls 3 ∷ rowIn ls 4 ∷ []) (ltb j 4) _ _
-        ∙ sym (rw (other-row 0 (rw e), other-row 1 (rw e), same-row 2 j (rw e) n, other-row 3 (rw e), other-row 4 (rw e)))
-    rows-then (suc (suc (suc zero))) j e n =
-        pick-under (λ (r : List ℕ). rowIn ls 0 ∷ rowIn ls 1 ∷ rowIn ls 2 ∷ r ∷ rowIn ls 4 ∷ []) (ltb j 4) _ _
-        ∙ sym (rw (other-row 0 (rw e), other-row 1 (rw e), other-row 2 (rw e), same-row 3 j (rw e) n, other-row 4 (rw e)))
-    rows-then (suc (suc (suc (suc zero)))) j e n =
-        pick-under (λ (r : List ℕ). rowIn ls 0 ∷ rowIn ls 1 ∷ rowIn ls 2 ∷ rowIn ls 3 ∷ r ∷ []) (ltb j 4) _ _
-        ∙ sym (rw (other-row 0 (rw e), other-row 1 (rw e), other-row 2 (rw e), other-row 3 (rw e), same-row 4 j (rw e) n))
-    rows-then (suc (suc (suc (suc (suc i))))) j e n =
-        let past = suc (suc (suc (suc (suc i)))) in
-        rw (le-ltb past 5 (omega arith)) (sym (rows-stay (λ k m h. rw (is, e, ne-eqb past k (λ d. omega arith)))))
+    rows-then = go (ltb (x .row) 5) (ltb (x .told .number) 4) refl refl
+      where
+        go : (t u : Bool) → ltb (x .row) 5 ≡ t → ltb (x .told .number) 4 ≡ u → pick t (pick u (set (tableOf ls) (x .row) (raisedIn (x .told .number) (getD (tableOf ls) (x .row) []))) (tableOf ls)) (tableOf ls) ≡ tableOf (ls ++ l ∷ [])
+        go true true a b =
+            list-set 5 (rowIn ls) (rowIn (ls ++ l ∷ [])) (x .row) _
+            (λ h. ap (raisedIn (x .told .number)) (list-get 5 (rowIn ls) (x .row) [] h) ∙ row-raised (ltb-true (x .told .number) 4 b))
+            (λ i _ e. sym (row-stays i (λ j _. other-row i j e)))
+        go true false a b = sym (rows-stay (λ i j _ h. other-answer i j (λ e. omega (arith, ltb-false (x .told .number) 4 b))))
+        go false u a b = sym (rows-stay (λ i j h _. other-row i j (λ e. omega (arith, ltb-false (x .row) 5 a))))
 
   bad-stays : (x : Line) → lineOf l ≡ some x → badOf (ls ++ l ∷ []) ≡ badOf ls
   bad-stays x is = rw is at (many-then isBad ls l)
@@ -117,8 +126,8 @@ module _ (ls : List (List ℕ)) (l : List ℕ) (few : length ls < largest) where
   table-then = go (lineOf l) refl
     where
       go : (x : Option Line) → lineOf l ≡ x → counted (seen x) (tableOf ls) ≡ tableOf (ls ++ l ∷ [])
-      go (some x) is = rows-then x is (x .row) (x .told .number) refl refl
-      go none is = sym (rows-stay (λ i j h. rw is))
+      go (some x) is = rows-then x is
+      go none is = sym (rows-stay (λ i j h g. rw is))
 
   pub bad-then : badCounted (seen (lineOf l)) (badOf ls) ≡ badOf (ls ++ l ∷ [])
   bad-then = go (lineOf l) refl
@@ -127,7 +136,27 @@ module _ (ls : List (List ℕ)) (l : List ℕ) (few : length ls < largest) where
       go (some x) is = sym (bad-stays x is)
       go none is = more-one isBad ∙ sym (rw is at (many-then isBad ls l))
 
+seconds-both : (ls more : List (List ℕ)) → secondsInAll (ls ++ more) ≡ secondsInAll ls + secondsInAll more
+unfolding secondsInAll
+seconds-both [] more = omega arith
+seconds-both (k ∷ ls) more = omega (arith, seconds-both ls more)
+
 pub seconds-then : (ls : List (List ℕ)) (l : List ℕ) → secondsInAll (ls ++ l ∷ []) ≡ secondsInAll ls + adds (lineOf l)
 unfolding secondsInAll
-seconds-then [] l = omega arith
-seconds-then (k ∷ ls) l = omega (arith, seconds-then ls l)
+seconds-then ls l = omega (arith, seconds-both ls (l ∷ []))
+
+-- what ever passed the limit is over, whatever follows
+passes-more : (m n : ℕ) → m ≤ n → Passes m → Passes n
+passes-more m n h e = go (leb m largest) (leb n largest) refl refl e
+  where
+    go : (t u : Bool) → leb m largest ≡ t → leb n largest ≡ u → sumOrOver t m ≡ Over → sumOrOver u n ≡ Over
+    go t false et eu e = refl
+    go true true et eu e = absurd (let z : _≡_ {A = ℕ} 0 1 = cc in omega arith)
+    go false true et eu e = absurd (omega (arith, leb-false m largest et, leb-true n largest eu))
+
+pub running-sum-passed : (ls more : List (List ℕ)) → Passes (secondsInAll ls) → Passes (secondsInAll (ls ++ more))
+running-sum-passed ls more = passes-more (secondsInAll ls) (secondsInAll (ls ++ more)) (omega (arith, seconds-both ls more))
+
+pub duration-passed : (ls : List (List ℕ)) (l : List ℕ) (more : List (List ℕ)) → Passes (adds (lineOf l)) → Passes (secondsInAll (ls ++ l ∷ more))
+unfolding secondsInAll
+duration-passed ls l more = passes-more (adds (lineOf l)) (secondsInAll (ls ++ l ∷ more)) (omega (arith, seconds-both ls (l ∷ more)))

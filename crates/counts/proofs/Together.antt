@@ -1,20 +1,21 @@
 -- The twenty counts and the bad lines together are the lines: each line is counted at one place, or bad.
-use Prim.Native.Nat.{ℕ, zero, suc, _+_, _≤_}
+use Prim.Native.Nat.{ℕ, zero, suc, _+_, _≤_, _<_}
 use mathlib.Core.Bool.{Bool, true, false}
 use mathlib.Core.List.{List, [], _∷_}
 use mathlib.Core.Option.{Option, some, none}
-use mathlib.Core.Path.{_≡_, refl}
+use mathlib.Core.Path.{_≡_, refl, sym, _∙_}
 use native.Mathlib.Omega.{arith}
 use lib.Dec.{eqb}
-use lib.ListN.{length}
+use borrow.Author.Tests.{eq-eqb, ne-eqb}
 use Rattle.parser.specs.Reading.{pick}
+use Rattle.parser.proofs.Fields.{and-right}
 use Rattle.kinds.specs.declared.answer.Kind.{Kind}
 use Rattle.kinds.specs.declared.answer.Kind.the-variants as kind
 use Rattle.kinds.specs.declared.answer.Letter.{Letter}
 use Rattle.kinds.specs.declared.answer.Letter.the-variants.{Names, Unknown}
 use Rattle.kinds.proofs.Laws.{four-answers}
 use Rattle.reply.specs.Line.{plainQuestion, plainText}
-use Rattle.counts.specs.Counts.{rowOf, Line, lineIn, lineOf, howMany, isAt, isBad, rowIn, tableOf, badOf, total, inAll}
+use Rattle.counts.specs.Counts.{rowOf, Line, lineIn, lineOf, howMany, isAt, isBad, listOf, rowIn, tableOf, total, inAll, MakeUp}
 
 -- a line that is not bad has its place in the table
 record Placed (x : Line) : Type 0 where
@@ -41,40 +42,52 @@ placed : (l : List ℕ) → PlacedOr (lineOf l)
 unfolding lineOf
 placed l = placed-in (plainQuestion l) (plainText l)
 
--- ---- a line is counted once
+-- ---- a sum over places
 
 abbrev one : Bool → ℕ
 one true = 1
 one false = 0
 
--- how often a row counts a line
+sum-none : (n : ℕ) (f : ℕ → ℕ) → ((i : ℕ) → i < n → f i ≡ 0) → total (listOf n f) ≡ 0
+sum-none zero f h = refl
+sum-none (suc n) f h = omega (arith, h 0 (omega arith), sum-none n (λ i. f (suc i)) (λ i e. h (suc i) (omega arith)))
+
+-- one at one place, and nothing at the others
+sum-one : (n k : ℕ) (f : ℕ → ℕ) → k < n → f k ≡ 1 → ((i : ℕ) → i < n → (i ≡ k → ⊥) → f i ≡ 0) → total (listOf n f) ≡ 1
+sum-one zero k f h own other = absurd (omega arith)
+sum-one (suc n) zero f h own other = omega (arith, own, sum-none n (λ i. f (suc i)) (λ i e. other (suc i) (omega arith) (λ c. omega arith)))
+sum-one (suc n) (suc k) f h own other =
+    omega (arith, other 0 (omega arith) (λ c. omega arith), sum-one n k (λ i. f (suc i)) (omega arith) own (λ i e d. other (suc i) (omega arith) (λ c. d (omega arith))))
+
+sum-both : (n : ℕ) (f g h : ℕ → ℕ) → ((i : ℕ) → h i ≡ f i + g i) → total (listOf n h) ≡ total (listOf n f) + total (listOf n g)
+sum-both zero f g h e = refl
+sum-both (suc n) f g h e = omega (arith, e 0, sum-both n (λ i. f (suc i)) (λ i. g (suc i)) (λ i. h (suc i)) (λ i. e (suc i)))
+
+rows-sum : (n : ℕ) (f : ℕ → List ℕ) → inAll (listOf n f) ≡ total (listOf n (λ i. total (f i)))
+rows-sum zero f = refl
+rows-sum (suc n) f = omega (arith, rows-sum n (λ i. f (suc i)))
+
+-- ---- a line is counted once
+
+-- how often a row counts a line, and all rows
 abbrev times : ℕ → Option Line → ℕ
-times i x = one (isAt i 0 x) + (one (isAt i 1 x) + (one (isAt i 2 x) + (one (isAt i 3 x) + 0)))
-
-other-times : (i : ℕ) (x : Line) → eqb (x .row) i ≡ false → times i (some x) ≡ 0
-other-times i x e = rw e
-
-own-times : (i j : ℕ) (x : Line) → eqb (x .row) i ≡ true → x .told .number ≡ j → j ≤ 3 → times i (some x) ≡ 1
-own-times i zero x e n h = rw (e, n)
-own-times i (suc zero) x e n h = rw (e, n)
-own-times i (suc (suc zero)) x e n h = rw (e, n)
-own-times i (suc (suc (suc zero))) x e n h = rw (e, n)
-own-times i (suc (suc (suc (suc j)))) x e n h = absurd (omega arith)
+times i x = total (listOf 4 (λ j. one (isAt i j x)))
 
 abbrev timesInAll : Option Line → ℕ
-timesInAll x = times 0 x + (times 1 x + (times 2 x + (times 3 x + (times 4 x + 0)))) + one (isBad x)
+timesInAll x = total (listOf 5 (λ i. times i x)) + one (isBad x)
 
-once-at : (i : ℕ) (x : Line) → x .row ≡ i → Placed x → timesInAll (some x) ≡ 1
-once-at zero x e p = rw (own-times 0 _ x (rw e) refl (p .answer), other-times 1 x (rw e), other-times 2 x (rw e), other-times 3 x (rw e), other-times 4 x (rw e))
-once-at (suc zero) x e p = rw (other-times 0 x (rw e), own-times 1 _ x (rw e) refl (p .answer), other-times 2 x (rw e), other-times 3 x (rw e), other-times 4 x (rw e))
-once-at (suc (suc zero)) x e p = rw (other-times 0 x (rw e), other-times 1 x (rw e), own-times 2 _ x (rw e) refl (p .answer), other-times 3 x (rw e), other-times 4 x (rw e))
-once-at (suc (suc (suc zero))) x e p = rw (other-times 0 x (rw e), other-times 1 x (rw e), other-times 2 x (rw e), own-times 3 _ x (rw e) refl (p .answer), other-times 4 x (rw e))
-once-at (suc (suc (suc (suc zero)))) x e p = rw (other-times 0 x (rw e), other-times 1 x (rw e), other-times 2 x (rw e), other-times 3 x (rw e), own-times 4 _ x (rw e) refl (p .answer))
-once-at (suc (suc (suc (suc (suc i))))) x e p = absurd (omega (arith, p .row))
+own-times : (x : Line) → Placed x → times (x .row) (some x) ≡ 1
+own-times x p =
+    sum-one 4 (x .told .number) (λ j. one (isAt (x .row) j (some x))) (omega (arith, p .answer))
+    (rw (eq-eqb (x .row) (x .row) refl, eq-eqb (x .told .number) (x .told .number) refl))
+    (λ j _ e. rw (ne-eqb (x .told .number) j (λ c. e (sym c)), and-right (eqb (x .row) (x .row)) refl))
+
+other-times : (x : Line) (i : ℕ) → (i ≡ x .row → ⊥) → times i (some x) ≡ 0
+other-times x i e = sum-none 4 (λ j. one (isAt i j (some x))) (λ j _. rw (ne-eqb (x .row) i (λ c. e (sym c))))
 
 once : (x : Option Line) → PlacedOr x → timesInAll x ≡ 1
 unfolding PlacedOr
-once (some x) p = once-at (x .row) x refl p
+once (some x) p = omega (arith, sum-one 5 (x .row) (λ i. times i (some x)) (omega (arith, p .row)) (own-times x p) (λ i _ e. other-times x i e))
 once none p = refl
 
 -- ---- and so each of some lines
@@ -88,12 +101,15 @@ many-cons f l ls = go (f (lineOf l))
     go false = omega arith
 
 row-cons : (i : ℕ) (l : List ℕ) (ls : List (List ℕ)) → total (rowIn (l ∷ ls) i) ≡ times i (lineOf l) + total (rowIn ls i)
-row-cons i l ls = omega (arith, many-cons (isAt i 0) l ls, many-cons (isAt i 1) l ls, many-cons (isAt i 2) l ls, many-cons (isAt i 3) l ls)
+row-cons i l ls = sum-both 4 (λ j. one (isAt i j (lineOf l))) (λ j. howMany (isAt i j) ls) (λ j. howMany (isAt i j) (l ∷ ls)) (λ j. many-cons (isAt i j) l ls)
 
-pub together : (ls : List (List ℕ)) → inAll (tableOf ls) + badOf ls ≡ length ls
+rows-cons : (l : List ℕ) (ls : List (List ℕ)) → inAll (tableOf (l ∷ ls)) ≡ total (listOf 5 (λ i. times i (lineOf l))) + inAll (tableOf ls)
+rows-cons l ls = rows-sum 5 (rowIn (l ∷ ls)) ∙ sum-both 5 (λ i. times i (lineOf l)) (λ i. total (rowIn ls i)) (λ i. total (rowIn (l ∷ ls) i)) (λ i. row-cons i l ls) ∙ rw (rows-sum 5 (rowIn ls))
+
+pub together : (ls : List (List ℕ)) → MakeUp ls
 unfolding howMany
 together [] = refl
 together (l ∷ ls) = step (together ls)
   where
-    step : inAll (tableOf ls) + badOf ls ≡ length ls → inAll (tableOf (l ∷ ls)) + badOf (l ∷ ls) ≡ suc (length ls)
-    step h = omega (arith, row-cons 0 l ls, row-cons 1 l ls, row-cons 2 l ls, row-cons 3 l ls, row-cons 4 l ls, many-cons isBad l ls, once (lineOf l) (placed l))
+    step : MakeUp ls → MakeUp (l ∷ ls)
+    step h = omega (arith, rows-cons l ls, many-cons isBad l ls, once (lineOf l) (placed l))

@@ -1,11 +1,13 @@
 -- A week of lines in numbers, defined from the lines.
-use Prim.Native.Nat.{ℕ, _+_}
+use Prim.Native.Nat.{ℕ, zero, suc, _+_}
 use mathlib.Core.Bool.{Bool, true, false}
 use mathlib.Core.List.{List, [], _∷_}
 use mathlib.Core.Option.{Option, some, none}
+use mathlib.Core.Path.{_≡_}
 use lib.Dec.{eqb}
 use lib.ListN.{length}
-use Rattle.types.specs.Sums.{secondsOf}
+use Rattle.types.specs.Sums.{secondsOf, orOver}
+use Rattle.types.specs.declared.InSeconds.the-variants.{Over}
 use Rattle.parser.specs.Reading.{and, pick}
 use Rattle.parser.specs.Answer.{Told, ended}
 use Rattle.kinds.specs.declared.answer.Kind.{Kind}
@@ -57,12 +59,17 @@ abbrev pub isBad : Option Line → Bool
 isBad (some x) = false
 isBad none = true
 
--- a count for each kind and each answer
+-- what f has for each of the first n numbers
+abbrev pub listOf : {A : Type 0} → ℕ → (ℕ → A) → List A
+listOf zero f = []
+listOf (suc n) f = f 0 ∷ listOf n (λ i. f (suc i))
+
+-- a count for each answer, and a row of them for each kind
 abbrev pub rowIn : List (List ℕ) → ℕ → List ℕ
-rowIn ls i = howMany (isAt i 0) ls ∷ howMany (isAt i 1) ls ∷ howMany (isAt i 2) ls ∷ howMany (isAt i 3) ls ∷ []
+rowIn ls i = listOf 4 (λ j. howMany (isAt i j) ls)
 
 abbrev pub tableOf : List (List ℕ) → List (List ℕ)
-tableOf ls = rowIn ls 0 ∷ rowIn ls 1 ∷ rowIn ls 2 ∷ rowIn ls 3 ∷ rowIn ls 4 ∷ []
+tableOf ls = listOf 5 (rowIn ls)
 
 abbrev pub badOf : List (List ℕ) → ℕ
 badOf ls = howMany isBad ls
@@ -90,6 +97,10 @@ unfoldable pub secondsInAll : List (List ℕ) → ℕ
 secondsInAll [] = 0
 secondsInAll (l ∷ ls) = adds (lineOf l) + secondsInAll ls
 
+-- "If a duration's sum or the running sum ever passes 18,446,744,073,709,551,615": some lines together, or one of them
+abbrev pub Passes : ℕ → Type 0
+Passes n = orOver n ≡ Over
+
 -- ---- the twenty counts together
 
 abbrev pub total : List ℕ → ℕ
@@ -99,3 +110,7 @@ total (n ∷ ns) = n + total ns
 abbrev pub inAll : List (List ℕ) → ℕ
 inAll [] = 0
 inAll (r ∷ rs) = total r + inAll rs
+
+-- "The twenty counts and the bad lines together equal the lines"
+abbrev pub MakeUp : List (List ℕ) → Type 0
+MakeUp ls = inAll (tableOf ls) + badOf ls ≡ length ls

@@ -81,7 +81,7 @@ fn of_answer(row: usize, begun: Answer, all: usize) -> Seen
     }
 }
 
-// What a line counts as, without its end. The beginning reader is asked: it is the faster one, and its count tells the rest.
+// What a line counts as, without its end. The beginning reader is asked: it takes plain forms at one go, and its count tells the rest.
 pub fn see(line: &[u8]) -> Seen
     ensures { λ r. ⌜ r ≡ seen (lineOf (now (line .entry))) ⌝ }
 {

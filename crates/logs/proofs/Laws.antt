@@ -1,5 +1,5 @@
 -- What is counted of all bytes so far: a line that ends is one line more, and a line that goes on is none.
-use Prim.Native.Nat.{ℕ, _+_, _-_, _≤_, _<_}
+use Prim.Native.Nat.{ℕ, _≤_, _<_}
 use mathlib.Core.Bool.{true, false}
 use mathlib.Core.List.{List, [], _∷_, _++_}
 use mathlib.Core.Option.{Option, some, none}
@@ -35,8 +35,8 @@ comes-then {ls} {table} {w} l few c =
     }
 
 -- fewer lines than a count holds
-few-lines : (bytes more : List ℕ) → length (bytes ++ more) ≤ longest → length (split bytes .finished) < largest
-few-lines bytes more h = omega (arith, finished-few bytes, length-append bytes more)
+pub few-lines : (bytes : List ℕ) → length bytes ≤ longest → length (split bytes .finished) < largest
+few-lines bytes h = omega (arith, finished-few bytes)
 
 module _ (w : Week) (table : List (List ℕ)) {from : ℕ} {block kept new : List ℕ} {r : Taken} (takes : Takes (w .held) block from kept new r) (room : w .held ≤ length kept) where
   took : (bytes : List ℕ) → Holds (length kept) bytes (take (w .held) kept) → GoesOn (r .ended) (length kept) bytes (bytes ++ between from (r .used) block) (take (r .held) new)
@@ -50,7 +50,7 @@ module _ (w : Week) (table : List (List ℕ)) {from : ℕ} {block kept new : Lis
           let g = rw e at (took bytes (s .holds)) in
           let line : lineOf (take (r .held) new) ≡ lineOf (g .line) = ap lineOf (g .kept) ∙ line-clip (length kept) (g .line) long in
           record {
-            comes = rw (g .finished, line) (comes-then (g .line) (few-lines bytes _ h) (s .comes));
+            comes = rw (g .finished, line) (comes-then (g .line) (few-lines bytes (omega (arith, length-append bytes (between from (r .used) block)))) (s .comes));
             holds = rw (g .rest) (sym (take-nil (length kept)));
           };
       taken = refl;

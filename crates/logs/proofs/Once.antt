@@ -1,12 +1,12 @@
 -- For bytes so far that agree with the state, what a step leaves is fixed, and what `finish` puts is fixed for every state. And the numbers that
 -- are printed, but for the sum, make up the lines.
-use Prim.Native.Nat.{ℕ, _+_, _≤_}
+use Prim.Native.Nat.{ℕ, _≤_}
 use mathlib.Core.List.{List}
 use mathlib.Core.Path.{_≡_, sym, ap, _∙_}
 use lib.ListN.{length, take}
 use Rattle.text.specs.Text.{Output, output}
 use Rattle.lines.specs.Lines.{lines}
-use Rattle.counts.specs.Counts.{tableOf, badOf, inAll}
+use Rattle.counts.specs.Counts.{MakeUp}
 use Rattle.counts.proofs.Together.{together}
 use Rattle.logs.specs.declared.Week.{Week}
 use Rattle.logs.specs.Log.{input, After, Steps, Finishes}
@@ -38,5 +38,5 @@ finish-once {out₁ = out₁} {out₂ = out₂} {n = n} {m = m} f g =
     (ap Output.bytes same, ap Output.next same)
 
 -- "The twenty counts and the bad lines together equal the lines in the input, as defined from its bytes."
-pub all-lines : (handed : List ℕ) → inAll (tableOf (lines (input handed))) + badOf (lines (input handed)) ≡ length (lines (input handed))
+pub all-lines : (handed : List ℕ) → MakeUp (lines (input handed))
 all-lines handed = together (lines (input handed))

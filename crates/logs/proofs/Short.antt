@@ -1,12 +1,12 @@
 -- The seven lines have at most 1,024 bytes: no word is longer than 21, with its space.
-use Prim.Native.Nat.{ℕ, _+_, _≤_}
-use mathlib.Core.List.{List, [], _∷_, _++_, append-nil}
+use Prim.Native.Nat.{ℕ, _+_, _*_, _≤_}
+use mathlib.Core.List.{List, [], _∷_, _++_}
 use mathlib.Core.Path.{_≡_, _∙_}
 use native.Mathlib.Omega.{arith}
 use lib.ListN.{length, getD, length-append}
 use Rattle.types.specs.declared.InSeconds.{InSeconds}
 use Rattle.reply.proofs.Short.{text-short}
-use Rattle.words.specs.Words.{wordText, textOf}
+use Rattle.words.specs.Words.{textOf}
 use Rattle.words.specs.Records.{secondsWord}
 use Rattle.words.specs.declared.word.Word.{Word}
 use Rattle.words.specs.declared.word.Word.the-variants.{Number}
@@ -18,15 +18,11 @@ three a b c = rw (length-append (a ++ b) c, length-append a b)
 five : (a b c d e : List ℕ) → length (a ++ b ++ c ++ d ++ e) ≡ length a + length b + length c + length d + length e
 five a b c d e = three (a ++ b ++ c) d e ∙ rw (three a b c)
 
-row-short : (name row : List ℕ) → length (rowText name row) ≤ length name + 89
-row-short name row =
-    let counts = Number (getD row 0 0) ∷ Number (getD row 1 0) ∷ Number (getD row 2 0) ∷ Number (getD row 3 0) ∷ [] in
-    rw (three name (textOf counts) (10 ∷ [])) (omega (arith, text-short counts))
+line-short : (name : List ℕ) (ws : List Word) → length (lineText name ws) ≤ length name + 22 * length ws + 1
+line-short name ws = rw (three name (textOf ws) (10 ∷ [])) (omega (arith, text-short ws))
 
-word-short : (name : List ℕ) (w : Word) → length (lineText name w) ≤ length name + 23
-word-short name w =
-    let alone = rw (append-nil (wordText w)) at (text-short (w ∷ [])) in
-    rw (three name (wordText w) (10 ∷ [])) (omega arith)
+row-short : (name row : List ℕ) → length (rowText name row) ≤ length name + 89
+row-short name row = omega (arith, line-short name (Number (getD row 0 0) ∷ Number (getD row 1 0) ∷ Number (getD row 2 0) ∷ Number (getD row 3 0) ∷ []))
 
 table-short : (t : List (List ℕ)) → length (tableText t) ≤ 480
 unfolding tableText
@@ -46,8 +42,8 @@ unfolding weekText
 week-short t bad sum =
     omega (
       arith,
-      three (tableText t) (lineText badName (Number bad)) (lineText secondsName (secondsWord sum)),
+      three (tableText t) (lineText badName (Number bad ∷ [])) (lineText secondsName (secondsWord sum ∷ [])),
       table-short t,
-      word-short badName (Number bad),
-      word-short secondsName (secondsWord sum),
+      line-short badName (Number bad ∷ []),
+      line-short secondsName (secondsWord sum ∷ []),
     )

@@ -8,7 +8,6 @@ use lib.ListN.{length, take, length-append, length-take}
 use lib.Seq.{length-take-le, take-nil}
 use Rattle.lines.specs.Lines.{splitBy, lines, Holds}
 use Rattle.lines.proofs.Held.{take-lesser, held-whole, held-nothing, held-some, no-last, last}
-use Rattle.lines.proofs.Pinned.{finished-few}
 use Rattle.text.specs.Text.{Puts}
 use Rattle.counts.specs.Counts.{lineOf, howMany, secondsInAll, tableOf}
 use Rattle.counts.specs.Seen.{seen, counted}
@@ -16,7 +15,7 @@ use Rattle.counts.proofs.Laws.{line-clip}
 use Rattle.logs.specs.declared.Week.{Week}
 use Rattle.logs.specs.Table.{logText, weekText}
 use Rattle.logs.specs.Log.{longest, input, Comes, Sofar, After, started, withLine, AllLines, Steps, lastText, Finishes}
-use Rattle.logs.proofs.Laws.{comes-then}
+use Rattle.logs.proofs.Laws.{comes-then, few-lines}
 use Rattle.logs.proofs.Short.{week-short}
 
 take-more : (m : ℕ) (a b : List ℕ) → take m (a ++ b) ≡ take m a ++ take (m - length (take m a)) b
@@ -54,8 +53,7 @@ module _ (w : Week) (block kept : List ℕ) {before n held : ℕ} (least : befor
         let bytes = input handed in
         let more = first-more longest handed block (a .taken) least some in
         let s = a .sofar in
-        let held-so : take held kept ≡ take (w .held) kept = rw clamped (take-lesser (w .held) kept) in
-        let ready-so : Sofar (length kept) bytes table ready kept = record { comes = record { counts = s .comes .counts; bad = s .comes .bad; sum = s .comes .sum }; holds = held-so ∙ s .holds } in
+        let ready-so : Sofar (length kept) bytes table ready kept = record { comes = record { counts = s .comes .counts; bad = s .comes .bad; sum = s .comes .sum }; holds = held-whole (w .held) kept clamped ∙ s .holds } in
         let short : length (bytes ++ take n block) ≤ longest = rw more at (input-short (handed ++ block)) in
         record {
           sofar = subst (λ (i : List ℕ). Sofar (length kept) i table′ r kept′) (sym more) (all .goes long bytes short ready-so);
@@ -88,7 +86,7 @@ module _ (w : Week) (table : List (List ℕ)) (kept : List ℕ) where
       go (b ∷ l) h =
           let end = last (length kept) (input handed) (b ∷ l) h (omega arith) in
           let line : lineOf (b ∷ l) ≡ lineOf (end .line) = ap lineOf (end .kept) ∙ line-clip (length kept) (end .line) long in
-          rw (end .lines, line) (comes-text (comes-then (end .line) (omega (arith, finished-few (input handed), input-short handed)) (a .sofar .comes)))
+          rw (end .lines, line) (comes-text (comes-then (end .line) (few-lines (input handed) (input-short handed)) (a .sofar .comes)))
 
   short : length (lastText w table (take (w .held) kept)) ≤ 1024
   short = go (take (w .held) kept)

@@ -1,5 +1,5 @@
 -- A log that arrives in blocks: what is counted of all bytes so far.
-use Prim.Native.Nat.{ℕ, _+_, _-_, _≤_, min}
+use Prim.Native.Nat.{ℕ, _-_, _≤_, min}
 use mathlib.Core.Bool.{Bool}
 use mathlib.Core.List.{List, [], _∷_, _++_}
 use mathlib.Core.Path.{_≡_}
@@ -47,7 +47,8 @@ started = record { bad = 0; tally = record { sum = Sum 0 }; held = 0; taken = 0 
 abbrev pub withLine : Week → Seen → Week
 withLine w l = record { bad = badCounted l (w .bad); tally = tallied (w .tally) (adding l); held = 0; taken = w .taken }
 
--- From some bytes to these and some more, within the input's length. The buffer has room for as many bytes of a line as tell that it is too long.
+-- From some bytes to these and some more, within the input's length. The buffer has room for as many bytes of a line as tell that it is too long,
+-- whatever it begins with: 205, the programs' number.
 pub record Goes (limit : ℕ) (more : List ℕ) (table : List (List ℕ)) (w : Week) (kept : List ℕ) (table′ : List (List ℕ)) (w′ : Week) (kept′ : List ℕ) : Type 0 where
   pub goes : 205 ≤ limit → (bytes : List ℕ) → length (bytes ++ more) ≤ longest → Sofar limit bytes table w kept → Sofar limit (bytes ++ more) table′ w′ kept′
   pub taken : w′ .taken ≡ w .taken

@@ -4,7 +4,7 @@ use mathlib.Core.List.{List, [], _∷_, _++_}
 use lib.ListN.{getD}
 use Rattle.types.specs.Sums.{orOver}
 use Rattle.types.specs.declared.InSeconds.{InSeconds}
-use Rattle.words.specs.Words.{wordText, textOf}
+use Rattle.words.specs.Words.{textOf}
 use Rattle.words.specs.Records.{secondsWord}
 use Rattle.words.specs.declared.word.Word.{Word}
 use Rattle.words.specs.declared.word.Word.the-variants.{Number}
@@ -32,22 +32,22 @@ badName = 98 ∷ 97 ∷ 100 ∷ []
 abbrev pub secondsName : List ℕ
 secondsName = 115 ∷ 101 ∷ 99 ∷ 111 ∷ 110 ∷ 100 ∷ 115 ∷ []
 
+-- a name and some words
+abbrev pub lineText : List ℕ → List Word → List ℕ
+lineText name ws = name ++ textOf ws ++ (10 ∷ [])
+
 -- a name and its four counts
 abbrev pub rowText : List ℕ → List ℕ → List ℕ
-rowText name row = name ++ textOf (Number (getD row 0 0) ∷ Number (getD row 1 0) ∷ Number (getD row 2 0) ∷ Number (getD row 3 0) ∷ []) ++ (10 ∷ [])
+rowText name row = lineText name (Number (getD row 0 0) ∷ Number (getD row 1 0) ∷ Number (getD row 2 0) ∷ Number (getD row 3 0) ∷ [])
 
 -- a row for each kind
 unfoldable pub tableText : List (List ℕ) → List ℕ
 tableText t =
     rowText dateName (getD t 0 []) ++ rowText timeName (getD t 1 []) ++ rowText offsetName (getD t 2 []) ++ rowText stampName (getD t 3 []) ++ rowText durationName (getD t 4 [])
 
--- a name and a word
-abbrev pub lineText : List ℕ → Word → List ℕ
-lineText name w = name ++ wordText w ++ (10 ∷ [])
-
 -- the table, the bad lines and the sum
 unfoldable pub weekText : List (List ℕ) → ℕ → InSeconds → List ℕ
-weekText t bad sum = tableText t ++ lineText badName (Number bad) ++ lineText secondsName (secondsWord sum)
+weekText t bad sum = tableText t ++ lineText badName (Number bad ∷ []) ++ lineText secondsName (secondsWord sum ∷ [])
 
 -- of some lines: each count is how many of them there are, and the sum is the exact one, or `over` where that is above the limit
 abbrev pub logText : List (List ℕ) → List ℕ

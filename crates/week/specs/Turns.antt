@@ -1,5 +1,5 @@
--- What the loop of `week` leaves. No contract says which bytes a read gave; but the table that is written is that of some bytes, which were handed
--- over one block behind the other.
+-- What the loop of `week` leaves: table and state are those of some bytes, which were handed over one block behind the other. No contract says
+-- which bytes a read gave.
 use Prim.Native.Nat.{ℕ}
 use mathlib.Core.Bool.{Bool}
 use mathlib.Core.List.{List}

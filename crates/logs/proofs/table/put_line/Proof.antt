@@ -1,4 +1,4 @@
--- The name, the word and the line's end, one behind the other.
+-- The name, the words and the line's end, one behind the other.
 use borrow.Author.Needs.{needs}
 use Rattle.text.proofs.Laws.{then-puts}
 use Rattle.logs.proofs.table.put_line.Statement.{statement}
@@ -11,6 +11,6 @@ put-line-spec =
     (λ c κs. search needs) (λ c κs. search needs) (λ c κs. search needs) (λ c. search needs)
     (λ c.
     let end = c .before .before in
-    let word = end .before .before .before .before in
-    let name = word .before .before .before .before in
-    then-puts (then-puts (name .put .ensures) (word .put-word .ensures)) (end .put-byte .ensures)))
+    let words = end .before .before .before .before in
+    let name = words .before .before .before .before in
+    then-puts (then-puts (name .put .ensures) (words .put-words .ensures)) (end .put-byte .ensures)))

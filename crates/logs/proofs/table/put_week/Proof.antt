@@ -15,4 +15,4 @@ put-week-spec =
     let seconds = c .before .before in
     let bad = seconds .before .before .before .before .before .before in
     let table = bad .before .before .before .before .before in
-    then-puts (then-puts (table .put-table .ensures) (bad .put-line .ensures)) (rw (seconds .before .seconds-word .ensures) at (seconds .put-line2 .ensures))))
+    then-puts (then-puts (table .put-table .ensures) (bad .put-word .ensures)) (rw (seconds .before .seconds-word .ensures) at (seconds .put-word2 .ensures))))
