@@ -20,8 +20,8 @@
  *     TIROZHBAR_OPEN       1  some longer text gets another
  *     TIROZHBAR_NO_VERDICT -1 always, after tirozhbar_parse_*
  *
- * Where it is open, another answer is not far: some text that is longer by at most 2 bytes (offsets and times), 3 (durations), 7 (dates) or
- * 10 (date-times) gets one. These numbers are the least.
+ * Where it is open, another answer is not far: with some 2 bytes behind it, or fewer (offsets and times), 3 (durations), 7 (dates) or 10
+ * (date-times), the text gets one. These numbers are the least that serve every text.
  *
  * The record stands from slot 2 on. After anything but 0 the slots from 2 on are left as they were, and so always are the slots past
  * the kind's number.

@@ -57,7 +57,7 @@ unfolding lit
 open-date s at d n h = go (ltb n (length s)) refl (eqb (getD s n 0) 84) refl
   where
     ahead : at ≤ n
-    ahead = omega (arith, date-item .lawful .steady .ahead .takes s at d n (sym (h .found)))
+    ahead = omega (arith, date-item .lawful .steady .ahead .spans s at d n (sym (h .found)))
 
     go : (t : Bool) → ltb n (length s) ≡ t → (u : Bool) → eqb (getD s n 0) 84 ≡ u → lit 84 .reads s n ≡ no
     go false i u e = rw i

@@ -119,4 +119,4 @@ further c s at = let e = go (run .reads s at) (run .more s at) refl in record { 
     go no false e = (omega arith, sym same)
     go (stop r) m e = (omega arith, sym same)
     go (got v n) true e = (omega arith, sym same)
-    go (got v n) false e = letter (eqb (getD s n 0) c) v (n + 1) (omega (arith, run-least number (atMost limit) 2 .takes s at v n e))
+    go (got v n) false e = letter (eqb (getD s n 0) c) v (n + 1) (omega (arith, run-least number (atMost limit) 2 .spans s at v n e))

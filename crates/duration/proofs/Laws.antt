@@ -56,7 +56,7 @@ minutes-tail h = seq-tail (opt-tail-if (part-item 77 refl refl) (λ v _. or-true
 
 some-time-too-few : TooFew 1 (verify someTime (seq (opt (part 72)) from-minutes))
 unfolding verify seq opt give
-some-time-too-few = record { finds = λ s at h. rw (part-too-few 72 .finds s at h, part-too-few 77 .finds s at h, part-too-few 83 .finds s at h) }
+some-time-too-few = record { nothing = λ s at h. rw (part-too-few 72 .nothing s at h, part-too-few 77 .nothing s at h, part-too-few 83 .nothing s at h) }
 
 base-time-item : Item bytes isDigit 2 2 Anything durationBaseTime
 unfolding durationBaseTime
@@ -108,7 +108,7 @@ months-tail y = seq-tail (opt-tail-if (part-item 77 refl refl) (λ v _. or-true 
 some-part-too-few : TooFew 1 (verify somePart partsRule)
 unfolding partsRule verify seq opt give
 some-part-too-few = record {
-  finds = λ s at h. rw (part-too-few 89 .finds s at h, part-too-few 77 .finds s at h, part-too-few 87 .finds s at h, part-too-few 68 .finds s at h, time-too-few .finds s at h);
+  nothing = λ s at h. rw (part-too-few 89 .nothing s at h, part-too-few 77 .nothing s at h, part-too-few 87 .nothing s at h, part-too-few 68 .nothing s at h, time-too-few .nothing s at h);
 }
 
 parts-item : Item bytes isDigit 2 2 SomePart (verify somePart partsRule)

@@ -97,9 +97,12 @@ hopeful k = lawful k .hopeful
 pub says : (k : Kind) (s : List ℕ) (f : Found Record) (m : Bool) → Says (ruleOf k) s 0 f m → Begins (bound k) (ruleOf k) s (begun f) (verdictOf m)
 says k = lawful-begins (lawful k)
 
+pub open-where : (k : Kind) (s : List ℕ) → ruleOf k .more s 0 ≡ true → Judged (bound k) (ruleOf k) s Open
+open-where k s e = says k s _ true (record { found = refl; more = sym e }) .verdict
+
 -- so the empty text is open
 pub empty-open : (k : Kind) → Judged (bound k) (ruleOf k) [] Open
-empty-open k = says k [] _ true (record { found = refl; more = sym (laws k .eager [] 0 (omega arith)) }) .verdict
+empty-open k = open-where k [] (laws k .eager [] 0 (omega arith))
 
 -- ---- where no completion may stop the reading, an open text has one that the whole reader accepts
 

@@ -13,16 +13,25 @@ use Rattle.kinds.specs.Kinds.{ruleOf}
 abbrev pub answerOf : Kind → List ℕ → Told Record
 answerOf k s = begun (ruleOf k .reads s 0)
 
+abbrev pub Bytes : List ℕ → Type 0
+Bytes [] = Unit {0}
+Bytes (b ∷ l) = (b < 256) × Bytes l
+
 -- "a continuation of at most ten bytes that changes the answer": of at most n
 pub record Near (n : ℕ) (k : Kind) (s : List ℕ) : Type 0 where
   pub more : List ℕ
+  pub bytes : Bytes more
   pub few : length more ≤ n
   pub another : answerOf k (s ++ more) ≡ answerOf k s → ⊥
 
--- "and that ten is needed: an empty date-time has none shorter": an input that needs n
+-- "has none shorter"
+abbrev pub NoneShorter : ℕ → Kind → List ℕ → Type 0
+NoneShorter n k s = (x : List ℕ) → length x < n → answerOf k (s ++ x) ≡ answerOf k s
+
+-- an input that needs n
 pub record Needs (n : ℕ) (k : Kind) (s : List ℕ) : Type 0 where
   pub near : Near n k s
-  pub none-shorter : (x : List ℕ) → length x < n → answerOf k (s ++ x) ≡ answerOf k s
+  pub none-shorter : NoneShorter n k s
 
 -- an input of each kind that needs as many as any: a `+`, since a `Z` alone is an offset; of the others the empty one
 abbrev pub farthest : Kind → List ℕ

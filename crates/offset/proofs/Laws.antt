@@ -1,4 +1,5 @@
--- The laws of offsets, part by part. What is still open, an hour or a minute, can be completed above 0, so that a minus is allowed.
+-- The laws of offsets, part by part. Where nothing has come `Z` completes it; an hour or a minute that is still open can be completed above 0, so
+-- that a minus is allowed.
 use Prim.Native.Nat.{ℕ, _≤_}
 use mathlib.Core.List.{List, [], _∷_}
 use mathlib.Core.Bool.{Bool, true, false, not}
@@ -11,7 +12,7 @@ use Rattle.types.specs.declared.Offset.{Offset}
 use Rattle.types.specs.Sums.{zeroOffset}
 use Rattle.parser.specs.Reading.{Found, no, got, stop, Says, lit, seq, after, alt, map, or, and}
 use Rattle.parser.specs.Answer.{begun, Begins, verdictOf}
-use Rattle.parser.specs.Digits.{isDigit}
+use Rattle.parser.specs.Digits.{lowest, highest, reach, digitsMore, field}
 use Rattle.parser.specs.Fields.{hour, signed}
 use Rattle.parser.proofs.Fields.{true≢false, and-right}
 use Rattle.parser.proofs.Places.{no≢got, Bounded, lit-fails}
@@ -87,13 +88,10 @@ minute-tail minus h =
     map-tail _ (tail-where (λ f. allowed-hour minus h 0 (f .0))
     (tested-tail _ (preceded-item 58 refl refl (field-item-in 2 0 59 1 59 refl (above-zero 59 (omega arith)))) (λ m f. allowed-minute minus h m (f .0))))
 
-hour-item : (minus : Bool) → Item bytes isDigit 2 2 Anything (seq hour (offsetMinute minus))
-hour-item minus = seq-item (field-item-in 2 0 23 1 23 refl (above-zero 23 (omega arith))) (minute-tail minus)
-
 -- where the input ends `Z` is an offset, and behind a sign two digits complete an hour or a minute
 pub offset-item : Item bytes (byte 90) 1 2 Anything offset
 unfolding offset offsetHour offsetZulu
-offset-item = or-item (signed-mark refl refl) (signed-foreign (In (byte 90)) (not-zulu 45 refl) (not-zulu 43 refl)) hour-item (map-item _ (lit-mark 90 refl .item))
+offset-item = or-item (signed-mark refl refl) (signed-foreign (In (byte 90)) (not-zulu 45 refl) (not-zulu 43 refl)) (λ minus. seq-item (field-item-in 2 0 23 1 23 refl (above-zero 23 (omega arith))) (minute-tail minus) .lawful) (map-item _ (lit-mark 90 refl .item))
   where
     not-zulu : (c : ℕ) → eqb 90 c ≡ false → (b : ℕ) → In (byte 90) b → eqb b c ≡ false
     not-zulu c h b e = rw (eqb-true b 90 e) h
@@ -114,14 +112,20 @@ hour-too-few = then-too-few signed-takes (λ minus. seq-too-few (offsetMinute mi
 
 pub plus-too-few : (x : List ℕ) → length x ≤ 1 → offset .reads (43 ∷ x) 0 ≡ no
 unfolding offset offsetZulu alt map
-plus-too-few x h = rw (hour-too-few .finds (43 ∷ x) 0 (omega arith), lit-other 90 (43 ∷ x) 0 refl)
+plus-too-few x h = rw (hour-too-few .nothing (43 ∷ x) 0 (omega arith), lit-other 90 (43 ∷ x) 0 refl)
 
--- ---- no offset stops the reading
+pub plus-open : offset .more (43 ∷ []) 0 ≡ true
+unfolding offset offsetHour alt seq map lit field digitsMore reach highest lowest
+plus-open = refl
 
-hour-takes : Takes 3 offsetHour
-unfolding offsetHour offsetMinute
-hour-takes = seq-takes signed-takes (λ minus. seq-takes (field-takes 2 0 23) (λ h. map-takes _ (verify-takes _ (opt-takes (preceded-takes 58 (field-takes 2 0 59))))))
+-- ---- an offset has one byte at least, and none stops the reading
+
+offset-takes : Takes 1 offset
+unfolding offset offsetHour offsetMinute offsetZulu
+offset-takes =
+    alt-takes
+    (fewer-takes (omega arith) (seq-takes signed-takes (λ minus. seq-takes (field-takes 2 0 23) (λ h. map-takes _ (verify-takes _ (opt-takes (preceded-takes 58 (field-takes 2 0 59))))))))
+    (map-takes _ (lit-takes 90))
 
 pub offset-unstopped : Unstopped offset
-unfolding offset offsetZulu
-offset-unstopped = alt-takes (fewer-takes (omega arith) hour-takes) (map-takes _ (lit-takes 90)) .unstopped
+offset-unstopped = offset-takes .unstopped

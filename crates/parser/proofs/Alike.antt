@@ -5,6 +5,8 @@ use mathlib.Core.Bool.{Bool, true, false}
 use mathlib.Core.Path.{_≡_, refl, sym, _∙_}
 use mathlib.Core.Logic.{inl, inr}
 use Rattle.parser.specs.Reading.{Found, no, got, stop, Reader, seq, opt, alt, verify, must, map, failed, or, and, Says}
+use Rattle.parser.proofs.Least.{Least}
+use Rattle.parser.proofs.Stops.{StopsBy}
 use Rattle.parser.proofs.Hopeful.{Ends, HopefulOr, Changes}
 
 -- ---- the same reading from two places
@@ -99,6 +101,12 @@ must-behind {A} f r p q s at = go (p .reads s at) refl
 
 pub alike-says : {A : Type 0} (p q : Reader A) → Alike p q → (s : List ℕ) (at : ℕ) (f : Found A) (m : Bool) → Says q s at f m → Says p s at f m
 alike-says p q e s at f m h = same-says (e s at) h
+
+pub alike-least : {A : Type 0} {k : ℕ} {p q : Reader A} → Alike p q → Least k q → Least k p
+alike-least e hq = record { spans = λ s at a n h. hq .spans s at a n (sym (e s at .reads) ∙ h) }
+
+pub alike-stops : {P : ℕ → Type 0} {A : Type 0} {p q : Reader A} → Alike p q → StopsBy P q → StopsBy P p
+alike-stops e hq = record { by = λ s at r h. hq .by s at r (sym (e s at .reads) ∙ h) }
 
 pub alike-ends : {A : Type 0} {k : ℕ} {X : ℕ → Type 0} {F : A → Type 0} (p q : Reader A) {s : List ℕ} {at : ℕ} → Alike p q → Ends k X F q s at → Ends k X F p s at
 alike-ends p q {s} {at} e x = record { first = x .first; rest = x .rest; value = x .value; begins = x .begins; few = x .few; fact = x .fact; reads = e (s ++ x .first ∷ x .rest) at .reads ∙ x .reads }

@@ -105,10 +105,11 @@ at-end-definite p ep fp s at a n e = go (p .more s at) refl
     go true h = absurd (no≢got (sym (fp s at (ep s at h)) ∙ e))
     go false h = h
 
-pub starts-hopeful : {A : Type 0} {k : ℕ} {X : ℕ → Type 0} {F : A → Type 0} (p : Reader A) → AtEnd p → Starts k X F p → Hopeful k F p
-starts-hopeful {A} {k} {X} {F} p ep st s at le h =
+-- so where it is open whatever starts there is read
+pub at-end-starts : {A B : Type 0} {k : ℕ} {X : ℕ → Type 0} {F : B → Type 0} (p : Reader A) (q : Reader B) → AtEnd p → Starts k X F q → (s : List ℕ) (at : ℕ) → at ≤ length s → p .more s at ≡ true → Ends k AnyByte F q s at
+at-end-starts p q ep st s at le h =
     let here : length s ≡ at = omega (arith, ep s at h) in
-    rw (← here) (starts-weaken p st s)
+    rw (← here) (starts-weaken q st s)
 
 -- ---- an end of a part is an end of the whole
 
@@ -127,6 +128,11 @@ ends-opt F p g e = record { first = e .first; rest = e .rest; value = some (e .v
 pub ends-alt : {A : Type 0} {k : ℕ} {X : ℕ → Type 0} {F : A → Type 0} (p q : Reader A) {s : List ℕ} {at : ℕ} → Ends k X F p s at → Ends k X F (alt p q) s at
 unfolding alt
 ends-alt p q e = record { first = e .first; rest = e .rest; value = e .value; begins = e .begins; few = e .few; fact = e .fact; reads = rw (e .reads) }
+
+-- the first alternative finds nothing there, and the second is read
+pub ends-else : {A : Type 0} {k : ℕ} {X : ℕ → Type 0} {F : A → Type 0} (p q : Reader A) {s : List ℕ} {at : ℕ} (e : Ends k X F q s at) → p .reads (s ++ e .first ∷ e .rest) at ≡ no → Ends k X F (alt p q) s at
+unfolding alt
+ends-else p q e fails = record { first = e .first; rest = e .rest; value = e .value; begins = e .begins; few = e .few; fact = e .fact; reads = rw (fails, e .reads) }
 
 -- p is read to the end, and what follows takes nothing there
 pub ends-then-skips : {A B : Type 0} {k : ℕ} {X : ℕ → Type 0} {E : A → Type 0} (F : B → Type 0) (p : Reader A) (q : A → Reader B) {s : List ℕ} {at : ℕ} → ((a : A) → E a → Skips F (q a)) → Ends k X E p s at → Ends k X F (seq p q) s at
@@ -197,9 +203,7 @@ unfolding alt
 alt-hopeful {A} {k} {F} p q sp hp hq s at le h = go (p .more s at) refl
   where
     second : p .more s at ≡ false → (f : Found A) → p .reads s at ≡ f → and (failed f) (q .more s at) ≡ true → Ends k AnyByte F (alt p q) s at
-    second em no ef h =
-        let e = hq s at le h in
-        record { first = e .first; rest = e .rest; value = e .value; begins = e .begins; few = e .few; fact = e .fact; reads = rw (sp s (e .first ∷ e .rest) at em .reads, ef, e .reads) }
+    second em no ef h = let e = hq s at le h in ends-else p q e (sp s (e .first ∷ e .rest) at em .reads ∙ ef)
     second em (stop r) ef h = absurd (true≢false (sym h))
     second em (got a n) ef h = absurd (true≢false (sym h))
 

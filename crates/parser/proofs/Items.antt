@@ -17,11 +17,11 @@ use Rattle.parser.proofs.Places.{Foreign, lit-bounded, field-bounded, l
 use Rattle.parser.proofs.Least.{fewer, lit-least, field-least}
 use Rattle.parser.proofs.Stops.{no-form, too-big, lit-stops, field-stops}
 use Rattle.parser.proofs.Steady.{Steady, opt-steady, alt-steady, seq-steady, run-steady}
-use Rattle.parser.proofs.Hopeful.{Ends, AnyByte, Anything, HopefulOr, hopeful-or, only-ends, never-stops, Starts, Keeps, AtEnd, definite-keeps, at-end-definite, ends-weaken, hopeful-weaken, starts-weaken, ends-alt, alt-hopeful, seq-hopeful, left-out-starts}
+use Rattle.parser.proofs.Hopeful.{Ends, AnyByte, Anything, HopefulOr, hopeful-or, only-ends, never-stops, Starts, Keeps, AtEnd, definite-keeps, at-end-definite, at-end-starts, ends-weaken, hopeful-weaken, ends-alt, ends-else, alt-hopeful, seq-hopeful, left-out-starts}
 use Rattle.parser.proofs.Leaves.{From, Narrows, lit-starts, lit-at-end, lit-hopeful, map-at-end, alt-at-end, field-hopeful-in, field-starts, field-definite}
 use Rattle.parser.proofs.RunLeaves.{fraction-hopeful, run-eager, run-starts, run-then-starts, run-then-ends}
 use Rattle.parser.proofs.General.{lit-eager, alt-eager, seq-eager, field-eager}
-use Rattle.parser.proofs.Lawful.{most, most-left, most-right, In, byte, member, Outside, told-apart, outside-digit, outside-other, seq-lawful, Item, ItemOr, forget, map-item, alt-item, then-item}
+use Rattle.parser.proofs.Lawful.{most, most-left, most-right, In, byte, member, Outside, told-apart, outside-digit, outside-other, Lawful, seq-lawful, Item, ItemOr, forget, map-item, alt-item, then-item}
 
 -- ---- single bytes: items that are open at the end of the input alone
 
@@ -56,9 +56,9 @@ signed-mark h g = alt-mark (map-mark (λ _. true) (lit-mark 45 h)) (map-mark (λ
 pub after-item : {W : Type 0} {A B : Type 0} {l : List ℕ} {c : ℕ} {Z : ℕ → Bool} {k n : ℕ} {F : B → Type 0} {p : Reader A} {q : A → Reader B} → Mark l c p → ((a : A) → ItemOr W l Z k n F (q a)) → ItemOr W l (byte c) (1 + k) (most (1 + k) n) F (seq p q)
 after-item {Z = Z} {p = p} hp hq = then-item (definite-keeps (In Z) p (hp .item .lawful .steady .stable) (at-end-definite p (hp .at-end) (hp .item .fails))) (hp .item) hq
 
--- a byte and what must follow it, or else an item that starts with another byte: where the input ends, that is the one that is started
-pub or-item : {A B : Type 0} {l : List ℕ} {c : ℕ} {Y Z : ℕ → Bool} {i j k n : ℕ} {F : B → Type 0} {p : Reader A} {q : A → Reader B} {r : Reader B} → Mark l c p → Foreign (In Z) p → ((a : A) → Item l Y i j F (q a)) → Item l Z k n F r → Item l Z k (most (most k j) n) F (alt (seq p q) r)
-unfolding seq alt
+-- a byte and what must follow it, or else an item that starts with another byte: where the input ends, the second is started
+pub or-item : {A B : Type 0} {l : List ℕ} {c : ℕ} {Z : ℕ → Bool} {j k n : ℕ} {F : B → Type 0} {p : Reader A} {q : A → Reader B} {r : Reader B} → Mark l c p → Foreign (In Z) p → ((a : A) → Lawful l j F (q a)) → Item l Z k n F r → Item l Z k (most (most k j) n) F (alt (seq p q) r)
+unfolding seq
 or-item {A} {B} {l} {Z = Z} {j = j} {k = k} {n = n} {F = F} {p = p} {q = q} {r = r} hp other hq hr = record {
   lawful = record {
     steady = alt-steady first (hr .lawful .steady);
@@ -70,23 +70,19 @@ or-item {A} {B} {l} {Z = Z} {j = j} {k = k} {n = n} {F = F} {p = p} {q = q} {r =
 }
   where
     first : Steady (Outside l) (seq p q)
-    first = seq-steady (hp .item .lawful .steady) (λ a. hq a .lawful .steady)
+    first = seq-steady (hp .item .lawful .steady) (λ a. hq a .steady)
 
     begun : Starts k (In Z) F (alt (seq p q) r)
-    begun s =
-        let e = hr .starts s in
-        record { first = e .first; rest = e .rest; value = e .value; begins = e .begins; few = e .few; fact = e .fact; reads = rw (other s (e .first) (e .rest) (length s) (e .begins) (omega arith), hp .item .fails s (length s) (omega arith)) (e .reads) }
+    begun s = let e = hr .starts s in ends-else (seq p q) r e (rw (other s (e .first) (e .rest) (length s) (e .begins) (omega arith), hp .item .fails s (length s) (omega arith)))
 
     on : (a : A) → HopefulOr ⊥ (most (most k j) n) F (q a)
-    on a = hopeful-weaken (most (most k j) n) F (q a) (λ w. w) (omega (arith, most-right k j, most-left (most k j) n)) (λ b f. f) (hq a .lawful .hopeful)
+    on a = hopeful-weaken (most (most k j) n) F (q a) (λ w. w) (omega (arith, most-right k j, most-left (most k j) n)) (λ b f. f) (hq a .hopeful)
 
     ends : (s : List ℕ) (at : ℕ) → at ≤ length s → seq p q .more s at ≡ true → Ends (most (most k j) n) AnyByte F (alt (seq p q) r) s at
     ends s at le h = go (p .more s at) refl
       where
         go : (m : Bool) → p .more s at ≡ m → Ends (most (most k j) n) AnyByte F (alt (seq p q) r) s at
-        go true em =
-            let here : length s ≡ at = omega (arith, hp .at-end s at em) in
-            rw (← here) (ends-weaken (most (most k j) n) AnyByte F (omega (arith, most-left k j, most-left (most k j) n)) (λ b i. tt) (λ b f. f) (begun s))
+        go true em = ends-weaken (most (most k j) n) AnyByte F (omega (arith, most-left k j, most-left (most k j) n)) (λ b i. i) (λ b f. f) (at-end-starts p (alt (seq p q) r) (hp .at-end) begun s at le em)
         go false em = ends-alt (seq p q) r (only-ends (seq-hopeful p q (hp .item .lawful .steady .stable) (hp .item .lawful .steady .bounded) on s at le (λ e. absurd (true≢false (sym e ∙ em))) h))
 
 -- an optional byte in front is left out where the input ends, if what follows starts with another
@@ -103,9 +99,7 @@ left-out-item {l = l} {Z = Z} {k = k} {F = F} {p = p} {q = q} hp other hq = reco
     begun = left-out-starts (In Z) p q (hp .item .fails) other (hq none .starts)
 
     ends : (s : List ℕ) (at : ℕ) → at ≤ length s → p .more s at ≡ true → Ends k AnyByte F (seq (opt p) q) s at
-    ends s at le e =
-        let here : length s ≡ at = omega (arith, hp .at-end s at e) in
-        rw (← here) (starts-weaken (seq (opt p) q) begun s)
+    ends = at-end-starts p (seq (opt p) q) (hp .at-end) begun
 
 pub preceded-item : {W : Type 0} {A : Type 0} {l : List ℕ} (c : ℕ) {Z : ℕ → Bool} {k n : ℕ} {F : A → Type 0} {p : Reader A} → member l c ≡ true → Z c ≡ false → ItemOr W l Z k n F p → ItemOr W l Z k (most k n) F (precededBy c p)
 preceded-item c {Z} h o hp = left-out-item (lit-mark c h) (lit-foreign (In Z) c (λ b i. told-apart Z b c (λ e. true≢false (sym i ∙ e ∙ o)))) (λ _. hp)

@@ -17,7 +17,7 @@ use Rattle.parser.proofs.Places.{Fails, Skips, seq-fails, alt-fails, ma
 use Rattle.parser.proofs.Steady.{Steady, give-steady, map-steady, verify-steady, opt-steady, alt-steady, seq-steady}
 use Rattle.parser.proofs.Hopeful.{Ends, AnyByte, Anything, Hopeful, HopefulOr, hopeful-or, never-stops, Starts, Keeps, foreign-keeps, ends-weaken, hopeful-weaken, ends-map, ends-verify, ends-opt, ends-alt, ends-then-skips, ends-then-starts, map-hopeful, verify-hopeful, opt-hopeful, give-hopeful, alt-hopeful, seq-hopeful}
 use Rattle.parser.proofs.Verdict.{says-begins}
-use Rattle.parser.proofs.Alike.{Alike, alike-ends, alike-hopeful}
+use Rattle.parser.proofs.Alike.{Alike, alike-least, alike-stops, alike-ends, alike-hopeful}
 use Rattle.parser.proofs.General.{Eager, seq-eager, map-eager, alt-eager}
 
 -- ---- bounds and bytes are computed, so that a use shows what it has to by `refl`
@@ -235,9 +235,9 @@ alike-item {p = p} {q = q} e hq = record {
     steady = record {
       stable = λ s x at h. let g = hq .lawful .steady .stable s x at (sym (e s at .more) ∙ h) in record { reads = e (s ++ x) at .reads ∙ g .reads ∙ sym (e s at .reads); more = e (s ++ x) at .more ∙ g .more };
       bounded = λ s at le a n h. hq .lawful .steady .bounded s at le a n (sym (e s at .reads) ∙ h);
-      ahead = record { takes = λ s at a n h. hq .lawful .steady .ahead .takes s at a n (sym (e s at .reads) ∙ h) };
+      ahead = alike-least e (hq .lawful .steady .ahead);
       foreign = λ s c y at x le. e (s ++ c ∷ y) at .reads ∙ hq .lawful .steady .foreign s c y at x le ∙ sym (e s at .reads);
-      numbered = record { by = λ s at r h. hq .lawful .steady .numbered .by s at r (sym (e s at .reads) ∙ h) };
+      numbered = alike-stops e (hq .lawful .steady .numbered);
     };
     hopeful = alike-hopeful p q e (hq .lawful .hopeful);
   };

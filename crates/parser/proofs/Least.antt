@@ -1,24 +1,24 @@
 -- How many bytes at least a reader takes for what it finds; so what is found ends at the place or behind it.
 use Prim.Native.Nat.{ℕ, zero, suc, _+_, _*_, _-_, _≤_}
 use mathlib.Core.List.{List}
-use mathlib.Core.Bool.{Bool, true, false}
-use mathlib.Core.Path.{_≡_, refl}
+use mathlib.Core.Bool.{Bool}
+use mathlib.Core.Path.{_≡_}
 use native.Mathlib.Omega.{arith}
 use lib.ListN.{length, getD}
 use lib.Dec.{ltb, eqb}
-use Rattle.parser.specs.Reading.{Found, no, got, stop, Reader, lit, seq, then, opt, lack, alt, orElse, verify, keep, must, keepOrStop, map, mapFound, give, pick, and, within}
+use Rattle.parser.specs.Reading.{no, got, stop, Reader, lit, seq, then, opt, lack, alt, orElse, verify, keep, must, keepOrStop, map, mapFound, give, and, within}
 use Rattle.parser.specs.Digits.{digit, digitsFrom, field, runAs}
-use Rattle.parser.proofs.Places.{no≢got, stop≢got, got-place, run-found}
+use Rattle.parser.proofs.Places.{no≢got, stop≢got, got-place, picked, made, run-found}
 
 pub record Least (k : ℕ) {A : Type 0} (p : Reader A) : Type 0 where
-  pub takes : (s : List ℕ) (at : ℕ) (a : A) (n : ℕ) → p .reads s at ≡ got a n → at + k ≤ n
+  pub spans : (s : List ℕ) (at : ℕ) (a : A) (n : ℕ) → p .reads s at ≡ got a n → at + k ≤ n
 
 -- never back from its place
 abbrev pub Ahead : {A : Type 0} → Reader A → Type 0
 Ahead p = Least 0 p
 
 pub fewer : {j k : ℕ} {A : Type 0} {p : Reader A} → j ≤ k → Least k p → Least j p
-fewer h hp = record { takes = λ s at a n e. omega (arith, hp .takes s at a n e) }
+fewer h hp = record { spans = λ s at a n e. omega (arith, hp .spans s at a n e) }
 
 -- ---- what a value is found by
 
@@ -28,24 +28,11 @@ nothing e = absurd (no≢got e)
 stopped : {X A : Type 0} {a : A} {n r : ℕ} → stop r ≡ got a n → X
 stopped e = absurd (stop≢got e)
 
-picked : {X A : Type 0} {a : A} {n : ℕ} {f g : Found A} → (f ≡ got a n → X) → (g ≡ got a n → X) → (t : Bool) → pick t f g ≡ got a n → X
-picked hf hg true e = hf e
-picked hf hg false e = hg e
-
--- what a reading is made into, where a stop is left as it is
-made : {X A B : Type 0} {b : B} {n : ℕ} (p : Reader A) (h : Found A → Found B) → ((r : ℕ) → h (stop r) ≡ stop r) → (s : List ℕ) (at : ℕ) → (h no ≡ got b n → X) → ((a : A) (m : ℕ) → p .reads s at ≡ got a m → h (got a m) ≡ got b n → X) → h (p .reads s at) ≡ got b n → X
-made {X} {A} {B} {b} {n} p h left s at none some = go (p .reads s at) refl
-  where
-    go : (f : Found A) → p .reads s at ≡ f → h f ≡ got b n → X
-    go no ef e = none e
-    go (stop r) ef e = stopped (rw (left r) at e)
-    go (got a m) ef e = some a m ef e
-
 -- ---- single bytes, fields and runs
 
 pub lit-least : (c : ℕ) → Least 1 (lit c)
 unfolding lit
-lit-least c = record { takes = λ s at a n. picked (λ e. omega (arith, got-place e)) nothing (and (ltb at (length s)) (eqb (getD s at 0) c)) }
+lit-least c = record { spans = λ s at a n. picked (λ e. omega (arith, got-place e)) nothing (and (ltb at (length s)) (eqb (getD s at 0) c)) }
 
 digits-least : (lo hi k v : ℕ) (s : List ℕ) (at a n : ℕ) → digitsFrom lo hi k v s at ≡ got a n → at + k ≤ n
 unfolding digitsFrom
@@ -54,37 +41,37 @@ digits-least lo hi (suc k) v s at a n = picked (λ e. omega (arith, digits-least
 
 pub field-least : (n lo hi : ℕ) → Least n (field n lo hi)
 unfolding field
-field-least n lo hi = record { takes = digits-least lo hi n 0 }
+field-least n lo hi = record { spans = digits-least lo hi n 0 }
 
 pub run-least : {A : Type 0} (f : List ℕ → A) (may : ℕ → Bool) (r : ℕ) → Least 1 (runAs f may r)
-run-least f may r = record { takes = λ s at a n e. let found = run-found f may r s at a n e in omega (arith, found .place, found .some) }
+run-least f may r = record { spans = λ s at a n e. let found = run-found f may r s at a n e in omega (arith, found .place, found .some) }
 
 -- ---- one law for each combinator
 
 pub give-least : {A : Type 0} (a : A) → Least 0 (give a)
 unfolding give
-give-least v = record { takes = λ s at a n e. omega (arith, got-place e) }
+give-least v = record { spans = λ s at a n e. omega (arith, got-place e) }
 
 pub map-least : {k : ℕ} {A B : Type 0} (f : A → B) {p : Reader A} → Least k p → Least k (map f p)
 unfolding map
-map-least f {p} hp = record { takes = λ s at b n. made p (mapFound f) (λ _. refl) s at nothing (λ a m ef e. omega (arith, got-place e, hp .takes s at a m ef)) }
+map-least f {p} hp = record { spans = λ s at b n. made p (mapFound f) s at nothing (λ _ _. stopped) (λ a m ef e. omega (arith, got-place e, hp .spans s at a m ef)) }
 
 pub verify-least : {k : ℕ} {A : Type 0} (f : A → Bool) {p : Reader A} → Least k p → Least k (verify f p)
 unfolding verify
-verify-least f {p} hp = record { takes = λ s at b n. made p (keep f) (λ _. refl) s at nothing (λ a m ef. picked (λ e. omega (arith, got-place e, hp .takes s at a m ef)) nothing (f a)) }
+verify-least f {p} hp = record { spans = λ s at b n. made p (keep f) s at nothing (λ _ _. stopped) (λ a m ef. picked (λ e. omega (arith, got-place e, hp .spans s at a m ef)) nothing (f a)) }
 
 pub must-least : {k : ℕ} {A : Type 0} (f : A → Bool) (r : ℕ) {p : Reader A} → Least k p → Least k (must f r p)
 unfolding must
-must-least f r {p} hp = record { takes = λ s at b n. made p (keepOrStop f r) (λ _. refl) s at nothing (λ a m ef. picked (λ e. omega (arith, got-place e, hp .takes s at a m ef)) stopped (f a)) }
+must-least f r {p} hp = record { spans = λ s at b n. made p (keepOrStop f r) s at nothing (λ _ _. stopped) (λ a m ef. picked (λ e. omega (arith, got-place e, hp .spans s at a m ef)) stopped (f a)) }
 
 pub opt-least : {k : ℕ} {A : Type 0} {p : Reader A} → Least k p → Least 0 (opt p)
 unfolding opt
-opt-least {p = p} hp = record { takes = λ s at b n. made p (lack at) (λ _. refl) s at (λ e. omega (arith, got-place e)) (λ a m ef e. omega (arith, got-place e, hp .takes s at a m ef)) }
+opt-least {p = p} hp = record { spans = λ s at b n. made p (lack at) s at (λ e. omega (arith, got-place e)) (λ _ _. stopped) (λ a m ef e. omega (arith, got-place e, hp .spans s at a m ef)) }
 
 pub alt-least : {k : ℕ} {A : Type 0} {p q : Reader A} → Least k p → Least k q → Least k (alt p q)
 unfolding alt
-alt-least {p = p} {q = q} hp hq = record { takes = λ s at b n. made p (λ f. orElse f (q .reads s at)) (λ _. refl) s at (hq .takes s at b n) (λ a m ef e. omega (arith, got-place e, hp .takes s at a m ef)) }
+alt-least {p = p} {q = q} hp hq = record { spans = λ s at b n. made p (λ f. orElse f (q .reads s at)) s at (hq .spans s at b n) (λ _ _. stopped) (λ a m ef e. omega (arith, got-place e, hp .spans s at a m ef)) }
 
 pub seq-least : {j k : ℕ} {A B : Type 0} {p : Reader A} {q : A → Reader B} → Least j p → ((a : A) → Least k (q a)) → Least (j + k) (seq p q)
 unfolding seq
-seq-least {p = p} {q = q} hp hq = record { takes = λ s at b n. made p (λ f. then f (λ a m. q a .reads s m)) (λ _. refl) s at nothing (λ a m ef e. omega (arith, hp .takes s at a m ef, hq a .takes s m b n e)) }
+seq-least {p = p} {q = q} hp hq = record { spans = λ s at b n. made p (λ f. then f (λ a m. q a .reads s m)) s at nothing (λ _ _. stopped) (λ a m ef e. omega (arith, hp .spans s at a m ef, hq a .spans s m b n e)) }

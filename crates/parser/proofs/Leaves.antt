@@ -15,7 +15,7 @@ use Rattle.parser.specs.Fields.{signed, precededBy}
 use Rattle.parser.proofs.Fields.{true≢false, and-first, and-second, DigitAt, digitsFrom-suc, highest-grows}
 use Rattle.parser.proofs.Stable.{digit-stays}
 use Rattle.parser.proofs.Places.{no≢got, stop≢got, Foreign, lit-fails, lit-foreign, alt-foreign, map-foreign}
-use Rattle.parser.proofs.Hopeful.{Anything, Hopeful, Starts, Definite, AtEnd, at-end-definite, starts-hopeful}
+use Rattle.parser.proofs.Hopeful.{Anything, Hopeful, Starts, Definite, AtEnd, at-end-definite, at-end-starts}
 
 -- ---- single bytes
 
@@ -38,7 +38,7 @@ unfolding lit
 lit-at-end c s at h = ltb-false at (length s) (not-true (ltb at (length s)) h)
 
 pub lit-hopeful : (c : ℕ) → Hopeful 1 Anything (lit c)
-lit-hopeful c = starts-hopeful (lit c) (lit-at-end c) (lit-starts c)
+lit-hopeful c = at-end-starts (lit c) (lit c) (lit-at-end c) (lit-starts c)
 
 pub lit-definite : (c : ℕ) → Definite (lit c)
 lit-definite c = at-end-definite (lit c) (lit-at-end c) (lit-fails c)

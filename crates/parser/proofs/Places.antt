@@ -29,6 +29,19 @@ got-place e = cc
 pub got-value : {A : Type 0} {a b : A} {m n : ℕ} → got a m ≡ got b n → a ≡ b
 got-value e = cc
 
+-- what is found by a choice, and by a reading that something is made of
+pub picked : {X A : Type 0} {f g found : Found A} → (f ≡ found → X) → (g ≡ found → X) → (t : Bool) → pick t f g ≡ found → X
+picked hf hg true e = hf e
+picked hf hg false e = hg e
+
+pub made : {X A B : Type 0} {found : Found B} (p : Reader A) (h : Found A → Found B) (s : List ℕ) (at : ℕ) → (h no ≡ found → X) → ((r : ℕ) → p .reads s at ≡ stop r → h (stop r) ≡ found → X) → ((a : A) (n : ℕ) → p .reads s at ≡ got a n → h (got a n) ≡ found → X) → h (p .reads s at) ≡ found → X
+made {X} {A} {B} {found} p h s at nothing stopped given = go (p .reads s at) refl
+  where
+    go : (f : Found A) → p .reads s at ≡ f → h f ≡ found → X
+    go no ef e = nothing e
+    go (stop r) ef e = stopped r ef e
+    go (got a n) ef e = given a n ef e
+
 -- what a run was read as, that it has a digit, and that it may have its number
 pub record RunFound {A : Type 0} (f : List ℕ → A) (may : ℕ → Bool) (s : List ℕ) (at : ℕ) (a : A) (n : ℕ) : Type 0 where
   pub some : 1 ≤ length (runAt s at)

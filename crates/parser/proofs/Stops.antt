@@ -2,13 +2,13 @@
 -- those of its parts.
 use Prim.Native.Nat.{ℕ, zero, suc, _+_, _*_, _-_}
 use mathlib.Core.List.{List, [], _∷_}
-use mathlib.Core.Bool.{Bool, true, false}
+use mathlib.Core.Bool.{Bool}
 use mathlib.Core.Path.{_≡_, refl, sym, _∙_}
 use lib.ListN.{length, getD}
 use lib.Dec.{ltb, eqb}
 use Rattle.parser.specs.Reading.{Found, no, got, stop, Reader, lit, seq, then, opt, lack, alt, orElse, verify, keep, must, keepOrStop, map, mapFound, give, pick, and, within}
 use Rattle.parser.specs.Digits.{digit, digitsFrom, field, number, runAt, ofRun, runAs}
-use Rattle.parser.proofs.Places.{no≢stop, stop≢got}
+use Rattle.parser.proofs.Places.{no≢stop, stop≢got, picked, made}
 
 -- what stops the reading has a number that P allows
 pub record StopsBy (P : ℕ → Type 0) {A : Type 0} (p : Reader A) : Type 0 where
@@ -30,18 +30,9 @@ given e = absurd (stop≢got (sym e))
 own : (P : ℕ → Type 0) {A : Type 0} {q r : ℕ} → P q → _≡_ {A = Found A} (stop q) (stop r) → P r
 own P {q = q} {r = r} h e = let same : q ≡ r = cc in rw (← same) h
 
-picked : {X A : Type 0} {r : ℕ} {f g : Found A} → (f ≡ stop r → X) → (g ≡ stop r → X) → (t : Bool) → pick t f g ≡ stop r → X
-picked hf hg true e = hf e
-picked hf hg false e = hg e
-
 -- what a reading is made into, where a stop is left as it is
-made : {P : ℕ → Type 0} {A B : Type 0} {p : Reader A} → StopsBy P p → (h : Found A → Found B) → ((q : ℕ) → h (stop q) ≡ stop q) → (s : List ℕ) (at r : ℕ) → (h no ≡ stop r → P r) → ((a : A) (n : ℕ) → h (got a n) ≡ stop r → P r) → h (p .reads s at) ≡ stop r → P r
-made {P} {A} {B} {p} hp h left s at r none some = go (p .reads s at) refl
-  where
-    go : (f : Found A) → p .reads s at ≡ f → h f ≡ stop r → P r
-    go no ef e = none e
-    go (stop q) ef e = own P (hp .by s at q ef) (sym (left q) ∙ e)
-    go (got a n) ef e = some a n e
+stop-made : {P : ℕ → Type 0} {A B : Type 0} {p : Reader A} → StopsBy P p → (h : Found A → Found B) → ((q : ℕ) → h (stop q) ≡ stop q) → (s : List ℕ) (at r : ℕ) → (h no ≡ stop r → P r) → ((a : A) (n : ℕ) → h (got a n) ≡ stop r → P r) → h (p .reads s at) ≡ stop r → P r
+stop-made {P} {p = p} hp h left s at r none some = made p h s at none (λ q ef e. own P (hp .by s at q ef) (sym (left q) ∙ e)) (λ a n _. some a n)
 
 digits-stop : {X : Type 0} (lo hi n v : ℕ) (s : List ℕ) (at r : ℕ) → digitsFrom lo hi n v s at ≡ stop r → X
 unfolding digitsFrom
@@ -75,24 +66,24 @@ module _ {P : ℕ → Type 0} where
 
   pub map-stops : {A B : Type 0} (f : A → B) {p : Reader A} → StopsBy P p → StopsBy P (map f p)
   unfolding map
-  map-stops f hp = record { by = λ s at r. made hp (mapFound f) (λ _. refl) s at r nothing (λ a n. given) }
+  map-stops f hp = record { by = λ s at r. stop-made hp (mapFound f) (λ _. refl) s at r nothing (λ a n. given) }
 
   pub verify-stops : {A : Type 0} (f : A → Bool) {p : Reader A} → StopsBy P p → StopsBy P (verify f p)
   unfolding verify
-  verify-stops f hp = record { by = λ s at r. made hp (keep f) (λ _. refl) s at r nothing (λ a n. picked given nothing (f a)) }
+  verify-stops f hp = record { by = λ s at r. stop-made hp (keep f) (λ _. refl) s at r nothing (λ a n. picked given nothing (f a)) }
 
   pub must-stops : {A : Type 0} (f : A → Bool) (r : ℕ) → P r → {p : Reader A} → StopsBy P p → StopsBy P (must f r p)
   unfolding must
-  must-stops f r h hp = record { by = λ s at q. made hp (keepOrStop f r) (λ _. refl) s at q nothing (λ a n. picked given (own P h) (f a)) }
+  must-stops f r h hp = record { by = λ s at q. stop-made hp (keepOrStop f r) (λ _. refl) s at q nothing (λ a n. picked given (own P h) (f a)) }
 
   pub opt-stops : {A : Type 0} {p : Reader A} → StopsBy P p → StopsBy P (opt p)
   unfolding opt
-  opt-stops hp = record { by = λ s at r. made hp (lack at) (λ _. refl) s at r given (λ a n. given) }
+  opt-stops hp = record { by = λ s at r. stop-made hp (lack at) (λ _. refl) s at r given (λ a n. given) }
 
   pub alt-stops : {A : Type 0} {p q : Reader A} → StopsBy P p → StopsBy P q → StopsBy P (alt p q)
   unfolding alt
-  alt-stops {q = q} hp hq = record { by = λ s at r. made hp (λ f. orElse f (q .reads s at)) (λ _. refl) s at r (hq .by s at r) (λ a n. given) }
+  alt-stops {q = q} hp hq = record { by = λ s at r. stop-made hp (λ f. orElse f (q .reads s at)) (λ _. refl) s at r (hq .by s at r) (λ a n. given) }
 
   pub seq-stops : {A B : Type 0} {p : Reader A} {q : A → Reader B} → StopsBy P p → ((a : A) → StopsBy P (q a)) → StopsBy P (seq p q)
   unfolding seq
-  seq-stops {q = q} hp hq = record { by = λ s at r. made hp (λ f. then f (λ a n. q a .reads s n)) (λ _. refl) s at r nothing (λ a n. hq a .by s n r) }
+  seq-stops {q = q} hp hq = record { by = λ s at r. stop-made hp (λ f. then f (λ a n. q a .reads s n)) (λ _. refl) s at r nothing (λ a n. hq a .by s n r) }

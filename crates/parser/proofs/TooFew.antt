@@ -16,7 +16,7 @@ use Rattle.parser.proofs.Places.{no≢got, Bounded, Fails, field-bounde
 use Rattle.parser.proofs.Least.{Least, fewer, lit-least, field-least, map-least, verify-least, opt-least, alt-least, seq-least}
 use Rattle.parser.proofs.Stops.{lit-stops, field-stops, map-stops, verify-stops, opt-stops, alt-stops, seq-stops}
 use Rattle.parser.proofs.Unstopped.{Unstopped}
-use Rattle.parser.proofs.Alike.{Alike}
+use Rattle.parser.proofs.Alike.{Alike, alike-least, alike-stops}
 
 -- ---- what takes so many bytes at least for what it finds, and never stops the reading: one law for each combinator
 
@@ -55,25 +55,22 @@ pub signed-takes : Takes 1 signed
 signed-takes = alt-takes (map-takes _ (lit-takes 45)) (map-takes _ (lit-takes 43))
 
 pub alike-takes : {k : ℕ} {A : Type 0} {p q : Reader A} → Alike p q → Takes k q → Takes k p
-alike-takes e hq = record {
-  least = record { takes = λ s at a n h. hq .least .takes s at a n (sym (e s at .reads) ∙ h) };
-  unstopped = record { by = λ s at r h. hq .unstopped .by s at r (sym (e s at .reads) ∙ h) };
-}
+alike-takes e hq = record { least = alike-least e (hq .least); unstopped = alike-stops e (hq .unstopped) }
 
 -- ---- with n bytes behind its place, or fewer, it finds nothing
 
 pub record TooFew (n : ℕ) {A : Type 0} (p : Reader A) : Type 0 where
-  pub finds : (s : List ℕ) (at : ℕ) → length s ≤ at + n → p .reads s at ≡ no
+  pub nothing : (s : List ℕ) (at : ℕ) → length s ≤ at + n → p .reads s at ≡ no
 
 pub too-few-fails : {n : ℕ} {A : Type 0} {p : Reader A} → TooFew n p → Fails p
-too-few-fails hp s at h = hp .finds s at (omega arith)
+too-few-fails hp s at h = hp .nothing s at (omega arith)
 
 -- what takes more
 pub takes-too-few : {k : ℕ} {A : Type 0} {p : Reader A} (n : ℕ) → n < k → Takes k p → Bounded p → Fails p → TooFew n p
-takes-too-few {k} {A} {p} n more hp bp fp = record { finds = λ s at h. go s at h (p .reads s at) refl }
+takes-too-few {k} {A} {p} n more hp bp fp = record { nothing = λ s at h. go s at h (p .reads s at) refl }
   where
     taken : (s : List ℕ) (at : ℕ) → length s ≤ at + n → (a : A) (m : ℕ) → p .reads s at ≡ got a m → (t : Bool) → leb at (length s) ≡ t → ⊥
-    taken s at h a m ef true e = omega (arith, more, hp .least .takes s at a m ef, bp s at (leb-true at (length s) e) a m ef)
+    taken s at h a m ef true e = omega (arith, more, hp .least .spans s at a m ef, bp s at (leb-true at (length s) e) a m ef)
     taken s at h a m ef false e = no≢got (sym (fp s at (omega (arith, leb-false at (length s) e))) ∙ ef)
 
     go : (s : List ℕ) (at : ℕ) → length s ≤ at + n → (f : Found A) → p .reads s at ≡ f → f ≡ no
@@ -86,28 +83,28 @@ field-too-few n lo hi = takes-too-few n (omega arith) (field-takes (suc n) lo hi
 
 pub map-too-few : {n : ℕ} {A B : Type 0} (f : A → B) {p : Reader A} → TooFew n p → TooFew n (map f p)
 unfolding map
-map-too-few f hp = record { finds = λ s at h. rw (hp .finds s at h) }
+map-too-few f hp = record { nothing = λ s at h. rw (hp .nothing s at h) }
 
 -- where they are too few for the first part
 pub seq-too-few : {n : ℕ} {A B : Type 0} {p : Reader A} (q : A → Reader B) → TooFew n p → TooFew n (seq p q)
 unfolding seq
-seq-too-few q hp = record { finds = λ s at h. rw (hp .finds s at h) }
+seq-too-few q hp = record { nothing = λ s at h. rw (hp .nothing s at h) }
 
 -- where what the first part leaves is too few
 pub then-too-few : {j k : ℕ} {A B : Type 0} {p : Reader A} {q : A → Reader B} → Takes j p → ((a : A) → TooFew k (q a)) → TooFew (j + k) (seq p q)
 unfolding seq
-then-too-few {j} {k} {A} {B} {p} {q} hp hq = record { finds = λ s at h. go s at h (p .reads s at) refl }
+then-too-few {j} {k} {A} {B} {p} {q} hp hq = record { nothing = λ s at h. go s at h (p .reads s at) refl }
   where
     go : (s : List ℕ) (at : ℕ) → length s ≤ at + (j + k) → (f : Found A) → p .reads s at ≡ f → then f (λ a m. q a .reads s m) ≡ no
     go s at h no ef = refl
     go s at h (stop r) ef = absurd (hp .unstopped .by s at r ef)
-    go s at h (got a m) ef = hq a .finds s m (omega (arith, hp .least .takes s at a m ef))
+    go s at h (got a m) ef = hq a .nothing s m (omega (arith, hp .least .spans s at a m ef))
 
 pub preceded-too-few : {n : ℕ} {A : Type 0} (c : ℕ) {p : Reader A} → TooFew n p → TooFew (0 + n) (precededBy c p)
 preceded-too-few c hp = then-too-few (opt-takes (lit-takes c)) (λ _. hp)
 
 pub alike-too-few : {n : ℕ} {A : Type 0} {p q : Reader A} → Alike p q → TooFew n q → TooFew n p
-alike-too-few e hq = record { finds = λ s at h. e s at .reads ∙ hq .finds s at h }
+alike-too-few e hq = record { nothing = λ s at h. e s at .reads ∙ hq .nothing s at h }
 
 -- ---- a run and what must follow it: one digit is no number that is too big, and behind it the input ends
 
@@ -117,7 +114,7 @@ one-digit {b} (also e none) = le-leb (0 * 10 + (b - 48)) limit (omega (arith, le
 
 pub run-too-few : {B : Type 0} (q : ℕ → Reader B) → ((v : ℕ) → Fails (q v)) → TooFew 1 (seq run q)
 unfolding seq runAs
-run-too-few {B} q hq = record { finds = λ s at h. go s at h (runAt s at) (rw (append-nil (runAt s at)) at (run-digits (drop at s) none)) (omega (arith, digits-short (drop at s), length-drop at s)) }
+run-too-few {B} q hq = record { nothing = λ s at h. go s at h (runAt s at) (rw (append-nil (runAt s at)) at (run-digits (drop at s) none)) (omega (arith, digits-short (drop at s), length-drop at s)) }
   where
     go : (s : List ℕ) (at : ℕ) → length s ≤ at + 1 → (d : List ℕ) → AllDigits d → length d ≤ 1 → then (ofRun d no (pick (atMost limit (number d)) (got (number d) (at + length d)) (stop 2))) (λ v n. q v .reads s n) ≡ no
     go s at h [] all few = refl

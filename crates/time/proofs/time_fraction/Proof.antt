@@ -52,7 +52,7 @@ sub-fraction-of c =
     let d = c .before in
     let a = d .before .before .before .before .before .before .before .before .args in
     let frac = rw (d .fraction .given .1) at (d .before .before .fraction-at .ensures) in
-    omega (arith, run-least fractionOf (numbersIf (a .zero)) 1 .takes (a .s .now) _ _ _ (sym (frac .found)))
+    omega (arith, run-least fractionOf (numbersIf (a .zero)) 1 .spans (a .s .now) _ _ _ (sym (frac .found)))
 
 returns : tie.Need-returns
 returns c =
