@@ -48,6 +48,17 @@ list-set (suc n) f g (suc i) a own other =
     ap₂ (λ b l. b ∷ l) (other 0 (omega arith) (λ e. omega arith))
     (list-set n (λ j. f (suc j)) (λ j. g (suc j)) i a (λ h. own (omega arith)) (λ j h e. other (suc j) (omega arith) (λ c. e (omega arith))))
 
+-- ---- a line is at its own place, and at no other
+
+pub own-place : (x : Line) → isAt (x .row) (x .told .number) (some x) ≡ true
+own-place x = rw (eq-eqb (x .row) (x .row) refl, eq-eqb (x .told .number) (x .told .number) refl)
+
+pub other-row : (x : Line) (i j : ℕ) → (i ≡ x .row → ⊥) → isAt i j (some x) ≡ false
+other-row x i j h = rw (ne-eqb (x .row) i (λ e. h (sym e)))
+
+pub other-answer : (x : Line) (i j : ℕ) → (j ≡ x .told .number → ⊥) → isAt i j (some x) ≡ false
+other-answer x i j h = rw (ne-eqb (x .told .number) j (λ e. h (sym e))) (and-right (eqb (x .row) i) refl)
+
 -- ---- how many
 
 many-few : (f : Option Line → Bool) (ls : List (List ℕ)) → howMany f ls ≤ length ls
@@ -90,20 +101,11 @@ module _ (ls : List (List ℕ)) (l : List ℕ) (few : length ls < largest) where
   rows-stay apart = list-same 5 _ _ (λ i h. row-stays i (λ j g. apart i j h g))
 
   module _ (x : Line) (is : lineOf l ≡ some x) where
-    other-row : (i j : ℕ) → (i ≡ x .row → ⊥) → isAt i j (lineOf l) ≡ false
-    other-row i j h = rw (is, ne-eqb (x .row) i (λ e. h (sym e)))
-
-    other-answer : (i j : ℕ) → (j ≡ x .told .number → ⊥) → isAt i j (lineOf l) ≡ false
-    other-answer i j h = rw (is, ne-eqb (x .told .number) j (λ e. h (sym e))) (and-right (eqb (x .row) i) refl)
-
-    own : isAt (x .row) (x .told .number) (lineOf l) ≡ true
-    own = rw (is, eq-eqb (x .row) (x .row) refl, eq-eqb (x .told .number) (x .told .number) refl)
-
     row-raised : x .told .number < 4 → raisedIn (x .told .number) (rowIn ls (x .row)) ≡ rowIn (ls ++ l ∷ []) (x .row)
     row-raised h =
         list-set 4 (λ j. howMany (isAt (x .row) j) ls) (λ j. howMany (isAt (x .row) j) (ls ++ l ∷ [])) (x .told .number) _
-        (λ _. ap more (list-get 4 (λ j. howMany (isAt (x .row) j) ls) (x .told .number) 0 h) ∙ sym (raises (x .row) (x .told .number) own))
-        (λ j _ e. sym (stays (x .row) j (other-answer (x .row) j e)))
+        (λ _. ap more (list-get 4 (λ j. howMany (isAt (x .row) j) ls) (x .told .number) 0 h) ∙ sym (raises (x .row) (x .told .number) (rw is (own-place x))))
+        (λ j _ e. sym (stays (x .row) j (rw is (other-answer x (x .row) j e))))
 
     -- the row that is raised is the line's, and every other stays
     rows-then : raised (x .row) (x .told .number) (tableOf ls) ≡ tableOf (ls ++ l ∷ [])
@@ -114,9 +116,9 @@ module _ (ls : List (List ℕ)) (l : List ℕ) (few : length ls < largest) where
         go true true a b =
             list-set 5 (rowIn ls) (rowIn (ls ++ l ∷ [])) (x .row) _
             (λ h. ap (raisedIn (x .told .number)) (list-get 5 (rowIn ls) (x .row) [] h) ∙ row-raised (ltb-true (x .told .number) 4 b))
-            (λ i _ e. sym (row-stays i (λ j _. other-row i j e)))
-        go true false a b = sym (rows-stay (λ i j _ h. other-answer i j (λ e. omega (arith, ltb-false (x .told .number) 4 b))))
-        go false u a b = sym (rows-stay (λ i j h _. other-row i j (λ e. omega (arith, ltb-false (x .row) 5 a))))
+            (λ i _ e. sym (row-stays i (λ j _. rw is (other-row x i j e))))
+        go true false a b = sym (rows-stay (λ i j _ h. rw is (other-answer x i j (λ e. omega (arith, ltb-false (x .told .number) 4 b)))))
+        go false u a b = sym (rows-stay (λ i j h _. rw is (other-row x i j (λ e. omega (arith, ltb-false (x .row) 5 a)))))
 
   bad-stays : (x : Line) → lineOf l ≡ some x → badOf (ls ++ l ∷ []) ≡ badOf ls
   bad-stays x is = rw is at (many-then isBad ls l)

@@ -3,12 +3,9 @@ use Prim.Native.Nat.{ℕ, zero, suc, _+_, _≤_, _<_}
 use mathlib.Core.Bool.{Bool, true, false}
 use mathlib.Core.List.{List, [], _∷_}
 use mathlib.Core.Option.{Option, some, none}
-use mathlib.Core.Path.{_≡_, refl, sym, _∙_}
+use mathlib.Core.Path.{_≡_, refl, _∙_}
 use native.Mathlib.Omega.{arith}
-use lib.Dec.{eqb}
-use borrow.Author.Tests.{eq-eqb, ne-eqb}
 use Rattle.parser.specs.Reading.{pick}
-use Rattle.parser.proofs.Fields.{and-right}
 use Rattle.kinds.specs.declared.answer.Kind.{Kind}
 use Rattle.kinds.specs.declared.answer.Kind.the-variants as kind
 use Rattle.kinds.specs.declared.answer.Letter.{Letter}
@@ -16,6 +13,7 @@ use Rattle.kinds.specs.declared.answer.Letter.the-variants.{Names, Unknown}
 use Rattle.kinds.proofs.Laws.{four-answers}
 use Rattle.reply.specs.Line.{plainQuestion, plainText}
 use Rattle.counts.specs.Counts.{rowOf, Line, lineIn, lineOf, howMany, isAt, isBad, listOf, rowIn, tableOf, total, inAll, MakeUp}
+use Rattle.counts.proofs.Laws.{own-place, other-row, other-answer}
 
 -- a line that is not bad has its place in the table
 record Placed (x : Line) : Type 0 where
@@ -77,13 +75,10 @@ abbrev timesInAll : Option Line → ℕ
 timesInAll x = total (listOf 5 (λ i. times i x)) + one (isBad x)
 
 own-times : (x : Line) → Placed x → times (x .row) (some x) ≡ 1
-own-times x p =
-    sum-one 4 (x .told .number) (λ j. one (isAt (x .row) j (some x))) (omega (arith, p .answer))
-    (rw (eq-eqb (x .row) (x .row) refl, eq-eqb (x .told .number) (x .told .number) refl))
-    (λ j _ e. rw (ne-eqb (x .told .number) j (λ c. e (sym c)), and-right (eqb (x .row) (x .row)) refl))
+own-times x p = sum-one 4 (x .told .number) (λ j. one (isAt (x .row) j (some x))) (omega (arith, p .answer)) (rw (own-place x)) (λ j _ e. rw (other-answer x (x .row) j e))
 
 other-times : (x : Line) (i : ℕ) → (i ≡ x .row → ⊥) → times i (some x) ≡ 0
-other-times x i e = sum-none 4 (λ j. one (isAt i j (some x))) (λ j _. rw (ne-eqb (x .row) i (λ c. e (sym c))))
+other-times x i e = sum-none 4 (λ j. one (isAt i j (some x))) (λ j _. rw (other-row x i j e))
 
 once : (x : Option Line) → PlacedOr x → timesInAll x ≡ 1
 unfolding PlacedOr
