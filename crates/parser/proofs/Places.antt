@@ -7,9 +7,9 @@ use mathlib.Core.Path.{_≡_, refl, sym, _∙_}
 use native.Mathlib.Omega.{arith}
 use lib.ListN.{length, getD, drop, length-append, length-drop, List·getD-append}
 use lib.Seq.{getD-append-seam, drop-append-le}
-use lib.Dec.{ltb, leb, eqb}
+use lib.Dec.{ltb, eqb}
 use borrow.Author.Tests.{ltb-true, ltb-false, lt-ltb, le-ltb}
-use Rattle.parser.specs.Reading.{Found, no, got, stop, Reader, lit, seq, then, opt, lack, alt, orElse, verify, keep, must, map, mapFound, give, pick, and}
+use Rattle.parser.specs.Reading.{Found, no, got, stop, Reader, lit, seq, then, opt, lack, alt, orElse, verify, keep, must, keepOrStop, map, mapFound, give, pick, and, within}
 use Rattle.parser.specs.Digits.{isDigit, digitsFrom, field, digits, number, runAt, ofRun, runAs}
 use Rattle.parser.proofs.Fields.{digitsFrom-end}
 use Rattle.parser.proofs.Runs.{run-end, digits-short}
@@ -28,6 +28,13 @@ got-place e = cc
 
 pub got-value : {A : Type 0} {a b : A} {m n : ℕ} → got a m ≡ got b n → a ≡ b
 got-value e = cc
+
+-- no value is found by these
+pub from-no : {X A : Type 0} {a : A} {n : ℕ} → no ≡ got a n → X
+from-no e = absurd (no≢got e)
+
+pub from-stop : {X A : Type 0} {a : A} {n r : ℕ} → stop r ≡ got a n → X
+from-stop e = absurd (stop≢got e)
 
 -- what is found by a choice, and by a reading that something is made of
 pub picked : {X A : Type 0} {f g found : Found A} → (f ≡ found → X) → (g ≡ found → X) → (t : Bool) → pick t f g ≡ found → X
@@ -86,60 +93,31 @@ give-bounded v s at le a n e = omega (arith, got-place e)
 
 pub seq-bounded : {A B : Type 0} (p : Reader A) (q : A → Reader B) → Bounded p → ((a : A) → Bounded (q a)) → Bounded (seq p q)
 unfolding seq
-seq-bounded {A} p q hp hq s at le b n e = go (p .reads s at) refl e
-  where
-    go : (f : Found A) → p .reads s at ≡ f → then f (λ a m. q a .reads s m) ≡ got b n → n ≤ length s
-    go no ef e = absurd (no≢got e)
-    go (stop r) ef e = absurd (stop≢got e)
-    go (got a m) ef e = hq a s m (hp s at le a m ef) b n e
+seq-bounded p q hp hq s at le b n = made p (λ f. then f (λ a m. q a .reads s m)) s at from-no (λ _ _. from-stop) (λ a m ef. hq a s m (hp s at le a m ef) b n)
 
 pub opt-bounded : {A : Type 0} (p : Reader A) → Bounded p → Bounded (opt p)
 unfolding opt
-opt-bounded {A} p hp s at le b n e = go (p .reads s at) refl e
-  where
-    go : (f : Found A) → p .reads s at ≡ f → lack at f ≡ got b n → n ≤ length s
-    go no ef e = omega (arith, got-place e)
-    go (stop r) ef e = absurd (stop≢got e)
-    go (got a m) ef e = omega (arith, got-place e, hp s at le a m ef)
+opt-bounded p hp s at le b n = made p (lack at) s at (λ e. omega (arith, got-place e)) (λ _ _. from-stop) (λ a m ef e. omega (arith, got-place e, hp s at le a m ef))
 
 pub alt-bounded : {A : Type 0} (p q : Reader A) → Bounded p → Bounded q → Bounded (alt p q)
 unfolding alt
-alt-bounded {A} p q hp hq s at le b n e = go (p .reads s at) refl e
-  where
-    go : (f : Found A) → p .reads s at ≡ f → orElse f (q .reads s at) ≡ got b n → n ≤ length s
-    go no ef e = hq s at le b n e
-    go (stop r) ef e = absurd (stop≢got e)
-    go (got a m) ef e = hp s at le b n (ef ∙ e)
+alt-bounded p q hp hq s at le b n = made p (λ f. orElse f (q .reads s at)) s at (hq s at le b n) (λ _ _. from-stop) (λ a m ef e. hp s at le b n (ef ∙ e))
 
 pub verify-bounded : {A : Type 0} (f : A → Bool) (p : Reader A) → Bounded p → Bounded (verify f p)
 unfolding verify
-verify-bounded {A} f p hp s at le b n e = go (p .reads s at) refl e
-  where
-    kept : (a : A) (m : ℕ) → p .reads s at ≡ got a m → (t : Bool) → pick t (got a m) no ≡ got b n → n ≤ length s
-    kept a m ef true e = hp s at le b n (ef ∙ e)
-    kept a m ef false e = absurd (no≢got e)
+verify-bounded f p hp s at le b n = made p (keep f) s at from-no (λ _ _. from-stop) (λ a m ef. picked (λ e. hp s at le b n (ef ∙ e)) from-no (f a))
 
-    go : (x : Found A) → p .reads s at ≡ x → keep f x ≡ got b n → n ≤ length s
-    go no ef e = absurd (no≢got e)
-    go (stop r) ef e = absurd (stop≢got e)
-    go (got a m) ef e = kept a m ef (f a) e
+pub must-bounded : {A : Type 0} (f : A → Bool) (r : ℕ) (p : Reader A) → Bounded p → Bounded (must f r p)
+unfolding must
+must-bounded f r p hp s at le b n = made p (keepOrStop f r) s at from-no (λ _ _. from-stop) (λ a m ef. picked (λ e. hp s at le b n (ef ∙ e)) from-stop (f a))
 
 pub map-bounded : {A B : Type 0} (f : A → B) (p : Reader A) → Bounded p → Bounded (map f p)
 unfolding map
-map-bounded {A} f p hp s at le b n e = go (p .reads s at) refl e
-  where
-    go : (x : Found A) → p .reads s at ≡ x → mapFound f x ≡ got b n → n ≤ length s
-    go no ef e = absurd (no≢got e)
-    go (stop r) ef e = absurd (stop≢got e)
-    go (got a m) ef e = omega (arith, got-place e, hp s at le a m ef)
+map-bounded f p hp s at le b n = made p (mapFound f) s at from-no (λ _ _. from-stop) (λ a m ef e. omega (arith, got-place e, hp s at le a m ef))
 
 digits-bounded : (lo hi n v : ℕ) (s : List ℕ) (at : ℕ) → at ≤ length s → (a m : ℕ) → digitsFrom lo hi n v s at ≡ got a m → m ≤ length s
 unfolding digitsFrom
-digits-bounded lo hi zero v s at le a m e = go (and (leb lo v) (leb v hi)) e
-  where
-    go : (t : Bool) → pick t (got v at) no ≡ got a m → m ≤ length s
-    go true e = omega (arith, got-place e)
-    go false e = absurd (no≢got e)
+digits-bounded lo hi zero v s at le a m e = picked (λ f. omega (arith, got-place f)) from-no (within lo hi v) e
 digits-bounded lo hi (suc n) v s at le a m e = go (ltb at (length s)) (isDigit (getD s at 0)) refl e (λ h. digits-bounded lo hi n (v * 10 + (getD s at 0 - 48)) s (at + 1) h a m)
   where
     go : (t u : Bool) → ltb at (length s) ≡ t → pick (and t u) (digitsFrom lo hi n (v * 10 + (getD s at 0 - 48)) s (at + 1)) no ≡ got a m → (at + 1 ≤ length s → digitsFrom lo hi n (v * 10 + (getD s at 0 - 48)) s (at + 1) ≡ got a m → m ≤ length s) → m ≤ length s
@@ -151,20 +129,8 @@ pub field-bounded : (n lo hi : ℕ) → Bounded (field n lo hi)
 unfolding field
 field-bounded n lo hi s at le a m e = digits-bounded lo hi n 0 s at le a m e
 
-run-short : (s : List ℕ) (at : ℕ) → at ≤ length s → at + length (runAt s at) ≤ length s
-run-short s at le = omega (arith, digits-short (drop at s), length-drop at s)
-
 pub run-bounded : {A : Type 0} (f : List ℕ → A) (may : ℕ → Bool) (r : ℕ) → Bounded (runAs f may r)
-unfolding runAs
-run-bounded f may r s at le a n e = go (runAt s at) (run-short s at le) e
-  where
-    fits : (d : List ℕ) → at + length d ≤ length s → (t : Bool) → pick t (got (f d) (at + length d)) (stop r) ≡ got a n → n ≤ length s
-    fits d h true e = omega (arith, got-place e)
-    fits d h false e = absurd (stop≢got e)
-
-    go : (d : List ℕ) → at + length d ≤ length s → ofRun d no (pick (may (number d)) (got (f d) (at + length d)) (stop r)) ≡ got a n → n ≤ length s
-    go [] h e = absurd (no≢got e)
-    go (b ∷ d) h e = fits (b ∷ d) h (may (number (b ∷ d))) e
+run-bounded f may r s at le a n e = omega (arith, run-found f may r s at a n e .place, digits-short (drop at s), length-drop at s)
 
 -- ---- past the end every reader fails alike, and an optional item takes nothing
 
@@ -268,6 +234,10 @@ alt-foreign X p q hp hq s c y at hx le = rw (hp s c y at hx le, hq s c y at hx l
 pub verify-foreign : {A : Type 0} (X : ℕ → Type 0) (f : A → Bool) (p : Reader A) → Foreign X p → Foreign X (verify f p)
 unfolding verify
 verify-foreign X f p hp s c y at hx le = rw (hp s c y at hx le)
+
+pub must-foreign : {A : Type 0} (X : ℕ → Type 0) (f : A → Bool) (r : ℕ) (p : Reader A) → Foreign X p → Foreign X (must f r p)
+unfolding must
+must-foreign X f r p hp s c y at hx le = rw (hp s c y at hx le)
 
 pub map-foreign : {A B : Type 0} (X : ℕ → Type 0) (f : A → B) (p : Reader A) → Foreign X p → Foreign X (map f p)
 unfolding map

@@ -1,17 +1,16 @@
 -- What holds of every part of a rule, hope aside, travels together: stable, within the input, never back from its place, deaf to bytes that
 -- it never takes, and stopped by no form or by a number that is too big alone.
-use Prim.Native.Nat.{ℕ, _≤_}
+use Prim.Native.Nat.{ℕ}
 use mathlib.Core.List.{List}
-use mathlib.Core.Bool.{Bool, true, false}
-use mathlib.Core.Path.{_≡_, refl, _∙_}
+use mathlib.Core.Bool.{Bool, false}
+use mathlib.Core.Path.{_≡_}
 use native.Mathlib.Omega.{arith}
-use lib.ListN.{length}
-use Rattle.parser.specs.Reading.{Found, no, got, stop, Reader, seq, opt, alt, verify, must, keepOrStop, map, give, pick}
+use Rattle.parser.specs.Reading.{Reader, seq, opt, alt, verify, must, map, give}
 use Rattle.parser.specs.Digits.{isDigit, runAs}
 use Rattle.parser.proofs.Stable.{Stable, give-stable, verify-stable, must-stable, map-stable, opt-stable, seq-stable, alt-stable, Growing, run-stable}
-use Rattle.parser.proofs.Places.{no≢got, stop≢got, Bounded, give-bounded, seq-bounded, opt-bounded, alt-bounded, verify-bounded, map-bounded, run-bounded}
+use Rattle.parser.proofs.Places.{Bounded, give-bounded, seq-bounded, opt-bounded, alt-bounded, verify-bounded, must-bounded, map-bounded, run-bounded}
 use Rattle.parser.proofs.Least.{Ahead, fewer, run-least, give-least, map-least, verify-least, must-least, opt-least, alt-least, seq-least}
-use Rattle.parser.proofs.Places.{Foreign, give-foreign, seq-foreign, opt-foreign, alt-foreign, verify-foreign, map-foreign, run-foreign}
+use Rattle.parser.proofs.Places.{Foreign, give-foreign, seq-foreign, opt-foreign, alt-foreign, verify-foreign, must-foreign, map-foreign, run-foreign}
 use Rattle.parser.proofs.Stops.{StopsBy, OneOrTwo, give-stops, map-stops, verify-stops, must-stops, opt-stops, alt-stops, seq-stops, run-stops}
 
 pub record Steady {A : Type 0} (X : ℕ → Type 0) (p : Reader A) : Type 0 where
@@ -20,25 +19,6 @@ pub record Steady {A : Type 0} (X : ℕ → Type 0) (p : Reader A) : Type 0 wher
   pub ahead : Ahead p
   pub foreign : Foreign X p
   pub numbered : StopsBy OneOrTwo p
-
--- ---- a value that has to pass a test
-
-must-bounded : {A : Type 0} (f : A → Bool) (r : ℕ) (p : Reader A) → Bounded p → Bounded (must f r p)
-unfolding must
-must-bounded {A} f r p hp s at le b n e = go (p .reads s at) refl e
-  where
-    kept : (a : A) (m : ℕ) → p .reads s at ≡ got a m → (t : Bool) → pick t (got a m) (stop r) ≡ got b n → n ≤ length s
-    kept a m ef true e = hp s at le b n (ef ∙ e)
-    kept a m ef false e = absurd (stop≢got e)
-
-    go : (x : Found A) → p .reads s at ≡ x → keepOrStop f r x ≡ got b n → n ≤ length s
-    go no ef e = absurd (no≢got e)
-    go (stop q) ef e = absurd (stop≢got e)
-    go (got a m) ef e = kept a m ef (f a) e
-
-must-foreign : {A : Type 0} (X : ℕ → Type 0) (f : A → Bool) (r : ℕ) (p : Reader A) → Foreign X p → Foreign X (must f r p)
-unfolding must
-must-foreign X f r p hp s c y at hx le = rw (hp s c y at hx le)
 
 -- ---- one law for each combinator, and for runs
 
