@@ -103,6 +103,26 @@ pub struct Duration {
     pub seconds: u64,
 }
 
+// How often an interval repeats: `Once` where no `R` was written; `Unlimited` for `R/`, which says no number; `Times` for `R5/`.
+pub enum Repetitions {
+    Once,
+    Unlimited,
+    Times(u32),
+}
+
+// What an interval spans: from one date-time to another; so long until a date-time; from a date-time on so long; or so long, and no more is said.
+pub enum IntervalRange {
+    Closed { start: DateTime, end: DateTime },
+    ClosedEnd { duration: Duration, end: DateTime },
+    ClosedStart { start: DateTime, duration: Duration },
+    Open { duration: Duration },
+}
+
+pub struct Interval {
+    pub repetitions: Repetitions,
+    pub range: IntervalRange,
+}
+
 // The seconds of a duration in all; or, refused, that they are more than 64 bits hold.
 pub enum InSeconds {
     Sum(u64),

@@ -1,0 +1,57 @@
+-- A date-time that something must follow. Behind the hour that ends the day a minute or second that is not 0 is no form, and what follows could
+-- not be read where it is left out: so 00 alone is read here, and nothing is open that can only come to be no form. `proofs/Beside.antt`
+-- holds it beside the rule of date-times.
+use Prim.Native.Nat.{ℕ, _+_}
+use mathlib.Core.List.{List}
+use mathlib.Core.Bool.{Bool, true, false}
+use lib.ListN.{getD}
+use lib.Dec.{eqb}
+use Rattle.types.specs.declared.Choices.{Choices}
+use Rattle.types.specs.declared.Date.{Date}
+use Rattle.types.specs.declared.DateTime.{DateTime}
+use Rattle.types.specs.declared.Reading.{Reading}
+use Rattle.types.specs.declared.Reading.the-variants.{Old, Standard}
+use Rattle.types.specs.declared.Time.{Time}
+use Rattle.parser.specs.Reading.{Reader, lit, seq, opt, alt, map, pick, and, within}
+use Rattle.parser.specs.Digits.{field}
+use Rattle.parser.specs.Fields.{precededBy, orZero}
+use Rattle.time.specs.declared.Clock.{Clock}
+use Rattle.time.specs.declared.TimeUnit.the-variants.{Hour}
+use Rattle.time.specs.Rules.{hourOf, endsDay, orWhole, unitOf, timeFraction, millisecond, timeOffset, afterHour}
+use Rattle.date.specs.Rules.{date}
+use Rattle.datetime.specs.Rules.{stamp}
+
+-- a minute or second of two zeros, and an optional colon in front
+abbrev pub zeros : Reader ℕ
+zeros = precededBy 58 (field 2 0 0)
+
+unfoldable pub zeroMinute : Reading → Reader Clock
+zeroMinute r = seq zeros (λ mi. seq (opt zeros) (λ se. millisecond (unitOf r se) true mi (orZero se)))
+
+unfoldable pub zeroBehind : Reading → Reader Clock
+zeroBehind Old = zeroMinute Old
+zeroBehind Standard = alt (zeroMinute Standard) (timeFraction Hour true 0 0)
+
+unfoldable pub zeroTail : Reading → ℕ → Reader Time
+zeroTail r h = seq (opt (zeroBehind r)) (λ c. timeOffset h (orWhole 0 0 c))
+
+unfoldable pub tailOf : Reading → Bool → ℕ → Reader Time
+tailOf r false h = afterHour r false h
+tailOf r true h = zeroTail r h
+
+unfoldable pub followedTime : Choices → Reader Time
+followedTime c = seq (hourOf (c .edition)) (λ h. tailOf (c .reading) (endsDay (c .edition) h) h)
+
+unfoldable pub followed : Choices → Reader DateTime
+followed c = seq date (λ d. seq (lit 84) (λ _. map (stamp d) (followedTime c)))
+
+-- what stands behind an hour that ends the day: a digit that is not 0, or a colon and such a digit
+abbrev pub notZero : List ℕ → ℕ → Bool
+notZero s n = within 49 57 (getD s n 0)
+
+abbrev pub heldAt : List ℕ → ℕ → Bool
+heldAt s n = pick (eqb (getD s n 0) 58) (notZero s (n + 1)) (notZero s n)
+
+-- a date-time that ends there, though no continuation lets another byte than these follow it
+abbrev pub heldBy : List ℕ → DateTime → ℕ → Bool
+heldBy s d n = and (eqb (d .time .hour) 24) (heldAt s n)

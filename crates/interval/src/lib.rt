@@ -1,0 +1,1 @@
+// Intervals (interval.rs), by request W12.
