@@ -1,13 +1,8 @@
 -- What holds of every date-time: a date's laws and a time's, and between them a `T`, which no date takes.
-use Prim.Native.Nat.{ℕ, suc, _≤_}
-use mathlib.Core.List.{List, [], _∷_, _++_}
-use mathlib.Core.Bool.{Bool, true, false}
-use mathlib.Core.Path.{_≡_, refl, sym}
-use native.Mathlib.Omega.{arith}
-use lib.Dec.{ltb, eqb}
-use lib.ListN.{length, getD, take, drop}
-use lib.Seq.{length-take-le, split-at}
-use borrow.Author.Tests.{ltb-true, eqb-true}
+use Prim.Native.Nat.{ℕ}
+use mathlib.Core.List.{List, [], _∷_}
+use mathlib.Core.Bool.{Bool, true}
+use mathlib.Core.Path.{_≡_, refl}
 use Rattle.types.specs.declared.Choices.{Choices}
 use Rattle.types.specs.declared.Date.{Date}
 use Rattle.types.specs.declared.DateTime.{DateTime}
@@ -16,7 +11,7 @@ use Rattle.parser.specs.Answer.{begun, Begins, verdictOf}
 use Rattle.parser.specs.Digits.{isDigit}
 use Rattle.parser.proofs.Places.{Bounded}
 use Rattle.parser.proofs.Hopeful.{Anything}
-use Rattle.parser.proofs.Lawful.{byte, lawful-begins, open-apart, ItemOr, widen, map-item, outside-keeps, then-item}
+use Rattle.parser.proofs.Lawful.{byte, lawful-begins, open-behind, ItemOr, widen, map-item, outside-keeps, then-item}
 use Rattle.parser.proofs.Items.{lit-mark, after-item}
 use Rattle.parser.proofs.TooFew.{lit-takes, TooFew, map-too-few, then-too-few}
 use Rattle.time.proofs.Laws.{MayStop, base-time-item, base-time-too-few}
@@ -53,17 +48,4 @@ datetime-too-few c = then-too-few date-takes (λ d. then-too-few (lit-takes 84) 
 -- ---- where a date is open no T stands behind it, which no date takes
 
 pub open-date : (s : List ℕ) (at : ℕ) (d : Date) (n : ℕ) → Says date s at (got d n) true → lit 84 .reads s n ≡ no
-unfolding lit
-open-date s at d n h = go (ltb n (length s)) refl (eqb (getD s n 0) 84) refl
-  where
-    ahead : at ≤ n
-    ahead = omega (arith, date-item .lawful .steady .ahead .spans s at d n (sym (h .found)))
-
-    go : (t : Bool) → ltb n (length s) ≡ t → (u : Bool) → eqb (getD s n 0) 84 ≡ u → lit 84 .reads s n ≡ no
-    go false i u e = rw i
-    go true i false e = rw (i, e)
-    go true i true e =
-        let inside = ltb-true n (length s) i in
-        let there = split-at s n 0 inside in
-        let still : date .more (take n s ++ getD s n 0 ∷ drop (suc n) s) at ≡ true = rw (← there) (sym (h .more)) in
-        absurd (open-apart (date-item .lawful) (take n s) (getD s n 0) (drop (suc n) s) at (rw (eqb-true (getD s n 0) 84 e)) (omega (arith, ahead, length-take-le n s (omega arith))) still)
+open-date = open-behind (date-item .lawful) 84 refl

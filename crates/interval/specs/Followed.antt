@@ -12,6 +12,8 @@ use Rattle.types.specs.declared.DateTime.{DateTime}
 use Rattle.types.specs.declared.Reading.{Reading}
 use Rattle.types.specs.declared.Reading.the-variants.{Old, Standard}
 use Rattle.types.specs.declared.Time.{Time}
+use Rattle.types.specs.declared.TimeOffset.{TimeOffset}
+use Rattle.types.specs.declared.TimeOffset.the-variants.{Absent, Given}
 use Rattle.parser.specs.Reading.{Reader, lit, seq, opt, alt, map, pick, and, within}
 use Rattle.parser.specs.Digits.{field}
 use Rattle.parser.specs.Fields.{precededBy, orZero}
@@ -52,6 +54,13 @@ notZero s n = within 49 57 (getD s n 0)
 abbrev pub heldAt : List ℕ → ℕ → Bool
 heldAt s n = pick (eqb (getD s n 0) 58) (notZero s (n + 1)) (notZero s n)
 
--- a date-time that ends there, though no continuation lets another byte than these follow it
+-- a time of that hour, with no offset, that ends where these stand: nothing can follow it. Behind an offset they may be its minutes.
+abbrev pub isAbsent : TimeOffset → Bool
+isAbsent Absent = true
+isAbsent (Given o) = false
+
+abbrev pub heldTime : List ℕ → Time → ℕ → Bool
+heldTime s t n = and (eqb (t .hour) 24) (and (isAbsent (t .offset)) (heldAt s n))
+
 abbrev pub heldBy : List ℕ → DateTime → ℕ → Bool
-heldBy s d n = and (eqb (d .time .hour) 24) (heldAt s n)
+heldBy s d n = heldTime s (d .time) n

@@ -1,3 +1,4 @@
 pub mod Rules
 pub mod Followed
 pub mod Once
+pub mod Answer

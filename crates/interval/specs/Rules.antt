@@ -29,8 +29,11 @@ orOnce none = Once
 orOnce (some r) = r
 
 -- "{`R`, optional digits, `/`}"
+unfoldable pub digitsAndSlash : Reader Repetitions
+digitsAndSlash = seq (opt repeatRun) (λ n. map (λ _. timesOf n) (lit 47))
+
 unfoldable pub repeated : Reader Repetitions
-repeated = seq (lit 82) (λ _. seq (opt repeatRun) (λ n. map (λ _. timesOf n) (lit 47)))
+repeated = seq (lit 82) (λ _. digitsAndSlash)
 
 -- "with optionally {..} in front"
 unfoldable pub repetitions : Reader Repetitions

@@ -116,4 +116,4 @@ alike-hopeful {W} {A} {k} {F} p q e hq s at le h = go (hq s at le (sym (e s at .
   where
     go : Changes W k F q s at → Changes W k F p s at
     go (inl x) = inl (alike-ends p q e x)
-    go (inr (w, x)) = inr (w, record { more = x .more; few = x .few; value = x .value; place = x .place; number = x .number; now = e s at .reads ∙ x .now; stops = e (s ++ x .more) at .reads ∙ x .stops })
+    go (inr (w, x)) = inr (w, record { more = x .more; few = x .few; value = x .value; place = x .place; now = e s at .reads ∙ x .now; less = rw (e (s ++ x .more) at .reads) (x .less) })

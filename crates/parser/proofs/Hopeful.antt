@@ -1,6 +1,6 @@
--- Where a byte more could matter, some few bytes more are read to the last one; or, under rules that allow it, stop the reading of what is
--- found now.
-use Prim.Native.Nat.{ℕ, suc, _+_, _≤_}
+-- Where a byte more could matter, some few bytes more are read to the last one; or, under rules that allow it, what is found now is lost to
+-- them: the reading is stopped, or less is found.
+use Prim.Native.Nat.{ℕ, suc, _+_, _<_, _≤_}
 use mathlib.Core.List.{List, _∷_, _++_, append-assoc}
 use mathlib.Core.Bool.{Bool, true, false}
 use mathlib.Core.Option.{Option, some, none}
@@ -8,7 +8,7 @@ use mathlib.Core.Path.{_≡_, refl, sym, _∙_}
 use mathlib.Core.Logic.{_⊎_, inl, inr}
 use native.Mathlib.Omega.{arith}
 use lib.ListN.{length, length-append}
-use Rattle.parser.specs.Reading.{Found, no, got, stop, Reader, seq, after, opt, alt, failed, verify, map, give, or, and}
+use Rattle.parser.specs.Reading.{Found, no, got, stop, Reader, seq, after, opt, alt, failed, verify, map, mapFound, give, or, and}
 use Rattle.parser.proofs.Fields.{true≢false}
 use Rattle.parser.proofs.Stable.{Stable}
 use Rattle.parser.proofs.Places.{no≢got, Bounded, Fails, Skips, Foreign, opt-foreign}
@@ -33,19 +33,24 @@ Anything a = Unit
 abbrev pub Hopeful : {A : Type 0} → ℕ → (A → Type 0) → Reader A → Type 0
 Hopeful k F p = (s : List ℕ) (at : ℕ) → at ≤ length s → p .more s at ≡ true → Ends k AnyByte F p s at
 
--- At most k bytes after which p, that finds a value now, stops the reading.
-pub record Stops {A : Type 0} (k : ℕ) (p : Reader A) (s : List ℕ) (at : ℕ) : Type 0 where
+-- nothing is found, or what ends before a place
+abbrev pub Less : {A : Type 0} → Found A → ℕ → Type 0
+Less no n = Unit
+Less (stop r) n = Unit
+Less (got a m) n = m < n
+
+-- At most k bytes after which p, that finds a value now, finds less.
+pub record Loses {A : Type 0} (k : ℕ) (p : Reader A) (s : List ℕ) (at : ℕ) : Type 0 where
   pub more : List ℕ
   pub few : length more ≤ k
   pub value : A
   pub place : ℕ
-  pub number : ℕ
   pub now : p .reads s at ≡ got value place
-  pub stops : p .reads (s ++ more) at ≡ stop number
+  pub less : Less (p .reads (s ++ more) at) place
 
 -- the one, or where W allows it the other
 abbrev pub Changes : Type 0 → {A : Type 0} → ℕ → (A → Type 0) → Reader A → List ℕ → ℕ → Type 0
-Changes W k F p s at = Ends k AnyByte F p s at ⊎ (W × Stops k p s at)
+Changes W k F p s at = Ends k AnyByte F p s at ⊎ (W × Loses k p s at)
 
 abbrev pub HopefulOr : Type 0 → {A : Type 0} → ℕ → (A → Type 0) → Reader A → Type 0
 HopefulOr W k F p = (s : List ℕ) (at : ℕ) → at ≤ length s → p .more s at ≡ true → Changes W k F p s at
@@ -89,7 +94,7 @@ hopeful-weaken {U} {W} {A} {j} k {E} F p f h g hp s at le m = go (hp s at le m)
   where
     go : Changes U j E p s at → Changes W k F p s at
     go (inl e) = inl (ends-weaken k AnyByte F h (λ c x. x) g e)
-    go (inr (v, e)) = inr (f v, record { more = e .more; few = omega (arith, e .few); value = e .value; place = e .place; number = e .number; now = e .now; stops = e .stops })
+    go (inr (v, e)) = inr (f v, record { more = e .more; few = omega (arith, e .few); value = e .value; place = e .place; now = e .now; less = e .less })
 
 pub starts-weaken : {A : Type 0} {k : ℕ} {X : ℕ → Type 0} {F : A → Type 0} (p : Reader A) → Starts k X F p → Starts k AnyByte F p
 starts-weaken {A} {k} {X} {F} p st s = ends-weaken k AnyByte F (omega arith) (λ c x. tt) (λ a f. f) (st s)
@@ -173,13 +178,18 @@ ends-after p q s at le kp a ea st =
 
 -- ---- hope, combinator by combinator
 
+less-map : {A B : Type 0} (f : A → B) (g : Found A) (n : ℕ) → Less g n → Less (mapFound f g) n
+less-map f no n h = tt
+less-map f (stop r) n h = tt
+less-map f (got a m) n h = h
+
 pub map-hopeful : {W : Type 0} {A B : Type 0} {k : ℕ} {E : A → Type 0} (F : B → Type 0) (f : A → B) (p : Reader A) → ((a : A) → E a → F (f a)) → HopefulOr W k E p → HopefulOr W k F (map f p)
 unfolding map
 map-hopeful {W} {A} {B} {k} {E} F f p g hp s at le h = go (hp s at le h)
   where
     go : Changes W k E p s at → Changes W k F (map f p) s at
     go (inl e) = inl (ends-map F f p g e)
-    go (inr (w, e)) = inr (w, record { more = e .more; few = e .few; value = f (e .value); place = e .place; number = e .number; now = rw (e .now); stops = rw (e .stops) })
+    go (inr (w, e)) = inr (w, record { more = e .more; few = e .few; value = f (e .value); place = e .place; now = rw (e .now); less = less-map f (p .reads (s ++ e .more) at) (e .place) (e .less) })
 
 pub verify-hopeful : {A : Type 0} {k : ℕ} {F : A → Type 0} (f : A → Bool) (p : Reader A) → ((a : A) → F a → f a ≡ true) → Hopeful k F p → Hopeful k F (verify f p)
 unfolding verify
@@ -219,7 +229,7 @@ seq-hopeful {W} {A} {B} {k} {F} p q sp bp hq s at le hp h = go (p .more s at) re
     -- p is settled with a value, and what follows decides
     on : p .more s at ≡ false → (a : A) (n : ℕ) → p .reads s at ≡ got a n → Changes W k F (q a) s n → Changes W k F (seq p q) s at
     on em a n ef (inl e) = inl (ends-read-on p q sp em a n ef e)
-    on em a n ef (inr (w, e)) = inr (w, record { more = e .more; few = e .few; value = e .value; place = e .place; number = e .number; now = rw (ef, e .now); stops = rw (sp s (e .more) at em .reads, ef, e .stops) })
+    on em a n ef (inr (w, e)) = inr (w, record { more = e .more; few = e .few; value = e .value; place = e .place; now = rw (ef, e .now); less = rw (sp s (e .more) at em .reads, ef) (e .less) })
 
     second : p .more s at ≡ false → (f : Found A) → p .reads s at ≡ f → after f (λ a n. q a .more s n) ≡ true → Changes W k F (seq p q) s at
     second em no ef h = absurd (true≢false (sym h))

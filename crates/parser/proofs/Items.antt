@@ -9,17 +9,17 @@ use lib.ListN.{length}
 use lib.Dec.{ltb, leb}
 use borrow.Author.Tests.{leb-true, le-leb, eqb-true}
 use Rattle.parser.specs.Reading.{Reader, lit, seq, opt, alt, map, and}
-use Rattle.parser.specs.Digits.{isDigit, field, lowest, highest, reach, number, any, atMost, limit, run, fractionOf, fraction}
+use Rattle.parser.specs.Digits.{isDigit, field, lowest, highest, reach, number, atMost, limit, runAs, run, fractionOf, fraction}
 use Rattle.parser.specs.Fields.{signed, either, precededBy}
 use Rattle.parser.proofs.Fields.{true≢false, and-first, and-second}
-use Rattle.parser.proofs.Stable.{lit-stable, field-stable, any-growing, most-growing}
+use Rattle.parser.proofs.Stable.{lit-stable, field-stable, Growing, any-growing, most-growing}
 use Rattle.parser.proofs.Places.{Foreign, lit-bounded, field-bounded, lit-fails, field-fails, run-fails, seq-fails, alt-fails, lit-foreign, field-foreign}
 use Rattle.parser.proofs.Least.{fewer, lit-least, field-least}
-use Rattle.parser.proofs.Stops.{no-form, too-big, lit-stops, field-stops}
+use Rattle.parser.proofs.Stops.{OneOrTwo, no-form, too-big, lit-stops, field-stops}
 use Rattle.parser.proofs.Steady.{Steady, opt-steady, alt-steady, seq-steady, run-steady}
 use Rattle.parser.proofs.Hopeful.{Ends, AnyByte, Anything, HopefulOr, hopeful-or, only-ends, never-stops, Starts, Keeps, AtEnd, definite-keeps, at-end-definite, at-end-starts, ends-weaken, hopeful-weaken, ends-alt, ends-else, alt-hopeful, seq-hopeful, left-out-starts}
 use Rattle.parser.proofs.Leaves.{From, Narrows, lit-starts, lit-at-end, lit-hopeful, map-at-end, alt-at-end, field-hopeful-in, field-starts, field-definite}
-use Rattle.parser.proofs.RunLeaves.{fraction-hopeful, run-eager, run-starts, run-then-starts, run-then-ends}
+use Rattle.parser.proofs.RunLeaves.{Padded, any-padded, zero-padded, run-hopeful, run-eager, run-starts, run-then-starts, run-then-ends}
 use Rattle.parser.proofs.General.{lit-eager, alt-eager, seq-eager, field-eager}
 use Rattle.parser.proofs.Lawful.{most, most-left, most-right, In, byte, member, Outside, told-apart, outside-digit, outside-other, Lawful, seq-lawful, Item, ItemOr, forget, map-item, alt-item, then-item}
 
@@ -165,13 +165,21 @@ field-keeps n lo hi = definite-keeps (In isDigit) (field n lo hi) (field-stable 
 
 -- ---- runs and the fraction
 
-pub fraction-item : {l : List ℕ} → Item l isDigit 1 1 Anything fraction
-fraction-item {l} = record {
-  lawful = record { steady = run-steady fractionOf any-growing no-form (outside-digit l); hopeful = hopeful-or fraction-hopeful };
-  fails = run-fails fractionOf any 1;
-  eager = run-eager fractionOf any-growing 1;
-  starts = run-starts fractionOf any-growing 1;
+-- a run whose number may have a zero more
+pub padded-item : {A : Type 0} {l : List ℕ} (f : List ℕ → A) {may : ℕ → Bool} → Growing may → Padded may → {r : ℕ} → OneOrTwo r → Item l isDigit 1 1 Anything (runAs f may r)
+padded-item {l = l} f {may} g h {r} w = record {
+  lawful = record { steady = run-steady f g w (outside-digit l); hopeful = hopeful-or (run-hopeful f h r) };
+  fails = run-fails f may r;
+  eager = run-eager f g r;
+  starts = run-starts f g r;
 }
+
+pub fraction-item : {l : List ℕ} → Item l isDigit 1 1 Anything fraction
+fraction-item = padded-item fractionOf any-growing any-padded no-form
+
+-- one that must be 0
+pub zero-fraction-item : {l : List ℕ} → Item l isDigit 1 1 Anything (runAs fractionOf (atMost 0) 1)
+zero-fraction-item = padded-item fractionOf (most-growing 0) zero-padded no-form
 
 -- a run and what must follow it, which starts with the byte c
 pub run-item : {B : Type 0} {l : List ℕ} (c : ℕ) {k n : ℕ} {F : B → Type 0} {q : ℕ → Reader B} → isDigit c ≡ false → ((v : ℕ) → Item l (byte c) k n F (q v)) → Item l isDigit (1 + k) (most (1 + k) n) F (seq run q)

@@ -1,14 +1,15 @@
 -- The laws of a part of a rule travel together: a record for what must be there, one for what may be absent, one law for each combinator.
-use Prim.Native.Nat.{ℕ, _+_, _≤_}
+use Prim.Native.Nat.{ℕ, suc, _+_, _≤_}
 use mathlib.Core.List.{List, [], _∷_, _++_, append-assoc}
 use mathlib.Core.Bool.{Bool, true, false}
 use mathlib.Core.Option.{Option, some, none}
 use mathlib.Core.Path.{_≡_, refl, sym, _∙_}
 use native.Mathlib.Omega.{arith}
-use lib.ListN.{length, length-append}
-use lib.Dec.{leb, eqb}
-use borrow.Author.Tests.{leb-true, leb-false, eqb-true}
-use Rattle.parser.specs.Reading.{Found, Reader, seq, opt, alt, verify, map, give, or, and, pick, Says}
+use lib.ListN.{length, getD, take, drop, length-append}
+use lib.Seq.{length-take-le, split-at}
+use lib.Dec.{ltb, leb, eqb}
+use borrow.Author.Tests.{ltb-true, leb-true, leb-false, eqb-true}
+use Rattle.parser.specs.Reading.{Found, no, got, Reader, lit, seq, opt, alt, verify, map, give, or, and, pick, Says}
 use Rattle.parser.specs.Answer.{begun, Begins, verdictOf}
 use Rattle.parser.specs.Digits.{isDigit}
 use Rattle.parser.proofs.Fields.{true≢false, and-first, and-second}
@@ -177,6 +178,10 @@ weaken {Y = Y} {j = j} {F = F} f h g hp = record { lawful = weaken-lawful f h g 
 pub widen : {W : Type 0} {A : Type 0} {m l : List ℕ} {Y : ℕ → Bool} {j k : ℕ} {F : A → Type 0} {p : Reader A} → among m l ≡ true → ItemOr W m Y j k F p → ItemOr W l Y j k F p
 widen {m = m} {l = l} h = weaken (λ w. w) (outside-fewer m l h) (λ a f. f)
 
+-- one that loses nothing, where that is allowed
+pub item-or : {W : Type 0} {A : Type 0} {l : List ℕ} {Y : ℕ → Bool} {j k : ℕ} {F : A → Type 0} {p : Reader A} → Item l Y j k F p → ItemOr W l Y j k F p
+item-or = weaken (λ w. absurd w) (λ b o. o) (λ a f. f)
+
 pub forget : {A : Type 0} {l : List ℕ} {Y : ℕ → Bool} {j k : ℕ} {F : A → Type 0} {p : Reader A} → Item l Y j k F p → Item l Y j k Anything p
 forget = weaken (λ w. w) (λ b o. o) (λ a f. tt)
 
@@ -218,6 +223,22 @@ open-apart {p = p} hp u c y at o le h =
     let all = rw (append-assoc u (c ∷ y) (e .first ∷ e .rest)) at (e .reads) in
     let few = hp .steady .bounded u at le (e .value) (length (u ++ c ∷ rest)) (sym (hp .steady .foreign u c rest at o le) ∙ all) in
     omega (arith, few, length-append u (c ∷ rest))
+
+-- so behind what such a part found and left open no such byte stands
+pub open-behind : {A : Type 0} {l : List ℕ} {k : ℕ} {F : A → Type 0} {p : Reader A} → Lawful l k F p → (c : ℕ) → Outside l c → (s : List ℕ) (at : ℕ) (a : A) (n : ℕ) → Says p s at (got a n) true → lit c .reads s n ≡ no
+unfolding lit
+open-behind {p = p} hp c o s at a n h = go (ltb n (length s)) refl (eqb (getD s n 0) c) refl
+  where
+    ahead : at ≤ n
+    ahead = omega (arith, hp .steady .ahead .spans s at a n (sym (h .found)))
+
+    go : (t : Bool) → ltb n (length s) ≡ t → (u : Bool) → eqb (getD s n 0) c ≡ u → lit c .reads s n ≡ no
+    go false i u e = rw i
+    go true i false e = rw (i, e)
+    go true i true e =
+        let there = split-at s n 0 (ltb-true n (length s) i) in
+        let still : p .more (take n s ++ getD s n 0 ∷ drop (suc n) s) at ≡ true = rw (← there) (sym (h .more)) in
+        absurd (open-apart hp (take n s) (getD s n 0) (drop (suc n) s) at (rw (eqb-true (getD s n 0) c e) o) (omega (arith, ahead, length-take-le n s (omega (arith, ltb-true n (length s) i)))) still)
 
 -- an item and the one that must follow it, whose first byte leaves the first as it is
 pub then-item : {W : Type 0} {A B : Type 0} {l : List ℕ} {Y Z : ℕ → Bool} {i j k n : ℕ} {E : A → Type 0} {F : B → Type 0} {p : Reader A} {q : A → Reader B} → Keeps (In Z) p → Item l Y i j E p → ((a : A) → ItemOr W l Z k n F (q a)) → ItemOr W l Y (i + k) (most (j + k) n) F (seq p q)

@@ -122,4 +122,4 @@ stricter-hopeful {W} {A} {k} {F} p q w st now hq s at le h = go (hq s at le (st 
       where
         by : SameOrStop (p .reads (s ++ e .first ∷ e .rest) at) (q .reads (s ++ e .first ∷ e .rest) at) → Changes W k F p s at
         by (inl i) = inl record { first = e .first; rest = e .rest; value = e .value; begins = tt; few = e .few; fact = e .fact; reads = i ∙ e .reads }
-        by (inr (r, i)) = inr (w, record { more = e .first ∷ e .rest; few = e .few; value = v .0; place = v .1 .0; number = r; now = v .1 .1; stops = i })
+        by (inr (r, i)) = inr (w, record { more = e .first ∷ e .rest; few = e .few; value = v .0; place = v .1 .0; now = v .1 .1; less = rw i tt })

@@ -15,7 +15,7 @@ use Rattle.parser.specs.Reading.{Found, no, got, stop, Reader, Says, pic
 use Rattle.parser.specs.Answer.{Told, recorded, refused, begun, ended, Judged, Begins, verdictOf}
 use Rattle.parser.proofs.Stable.{Stable}
 use Rattle.parser.proofs.Places.{Bounded}
-use Rattle.parser.proofs.Hopeful.{HopefulOr, Changes}
+use Rattle.parser.proofs.Hopeful.{HopefulOr, Changes, Less}
 
 -- the count of an answer lies within the input
 count-within : {A : Type 0} (p : Reader A) → Bounded p → (s : List ℕ) → begun (p .reads s 0) .count ≤ length s
@@ -43,7 +43,12 @@ open-within {W} {A} k F p bp hp s h = go (hp s 0 (omega arith) h)
         let x = e .first ∷ e .rest in
         let all : begun (p .reads (s ++ x) 0) .count ≡ length (s ++ x) = ap (λ (f : Found A). begun f .count) (e .reads) in
         (x, (e .few, λ same. let c = ap (λ (t : Told A). t .count) same in omega (arith, all, count-within p bp s, length-append s x)))
-    go (inr (w, e)) = (e .more, (e .few, λ same. recorded-or-refused (rw (e .now, e .stops) at (sym same))))
+    go (inr (w, e)) = (e .more, (e .few, λ same. shorter (p .reads (s ++ e .more) 0) (e .less) (rw (e .now) at same)))
+      where
+        shorter : (f : Found A) → Less f (e .place) → begun f ≡ recorded (e .value) (e .place) → ⊥
+        shorter no l same = recorded-or-refused (sym same)
+        shorter (stop r) l same = recorded-or-refused (sym same)
+        shorter (got a m) l same = let c = ap (λ (t : Told A). t .count) same in omega (arith, l)
 
 -- what code says of a reader is what it has to promise
 pub says-begins : {W : Type 0} {A : Type 0} (k : ℕ) (F : A → Type 0) (p : Reader A) → Stable p → Bounded p → HopefulOr W k F p → (s : List ℕ) (f : Found A) (m : Bool) → Says p s 0 f m → Begins k p s (begun f) (verdictOf m)

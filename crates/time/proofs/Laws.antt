@@ -14,23 +14,22 @@ use Rattle.types.specs.declared.Reading.{Reading}
 use Rattle.types.specs.declared.Reading.the-variants.{Old, Standard}
 use Rattle.parser.specs.Reading.{Found, Says, opt, seq}
 use Rattle.parser.specs.Answer.{begun, Begins, verdictOf}
-use Rattle.parser.specs.Digits.{isDigit, field, fractionOf}
+use Rattle.parser.specs.Digits.{isDigit, field}
 use Rattle.parser.specs.Fields.{orZero}
 use Rattle.parser.proofs.Places.{Bounded, Fails, lit-fails, field-fails, must-fails, alt-fails, seq-skips, opt-skips}
 use Rattle.parser.proofs.Hopeful.{Anything, never-stops}
 use Rattle.parser.proofs.General.{Eager}
-use Rattle.parser.proofs.Stable.{most-growing}
 use Rattle.parser.proofs.Stops.{no-form}
-use Rattle.parser.proofs.Steady.{Steady, map-steady, must-steady, opt-steady, alt-steady, seq-steady, run-steady}
+use Rattle.parser.proofs.Steady.{Steady, must-steady, opt-steady, alt-steady, seq-steady}
 use Rattle.parser.proofs.Stricter.{stricter-hopeful}
-use Rattle.parser.proofs.Lawful.{byte, Outside, outside-digit, lawful-begins, Tail, TailOr, tail-or, map-tail, seq-tail, Item, ItemOr, widen, map-item, alt-item, opt-tail, seq-item}
-use Rattle.parser.proofs.Items.{lit-mark, either-mark, after-item, preceded-item, field-item, fraction-item}
+use Rattle.parser.proofs.Lawful.{byte, Outside, lawful-begins, Tail, TailOr, tail-or, map-tail, seq-tail, Item, ItemOr, widen, map-item, alt-item, opt-tail, seq-item}
+use Rattle.parser.proofs.Items.{lit-mark, either-mark, after-item, preceded-item, field-item, fraction-item, zero-fraction-item}
 use Rattle.parser.proofs.TooFew.{TooFew, field-too-few, seq-too-few, preceded-too-few}
 use Rattle.offset.proofs.Laws.{offset-item}
 use Rattle.time.specs.declared.Clock.{Clock}
 use Rattle.time.specs.declared.TimeUnit.{TimeUnit}
 use Rattle.time.specs.declared.TimeUnit.the-variants.{Hour}
-use Rattle.time.specs.Rules.{hourOf, endsDay, orWhole, unitOf, timeFraction, millisecond, secondMillisecond, minuteSecondMillisecond, behindHour, timeOffset, afterHour, baseTime, time}
+use Rattle.time.specs.Rules.{hourOf, endsDay, fractionIf, orWhole, unitOf, timeFraction, millisecond, secondMillisecond, minuteSecondMillisecond, behindHour, timeOffset, afterHour, baseTime, time}
 use Rattle.time.proofs.Unmarked.{mark-fails, no-fraction}
 use Rattle.time.proofs.EndOfDay.{zeroField, after-hour-stricter, after-hour-valued}
 
@@ -38,15 +37,29 @@ use Rattle.time.proofs.EndOfDay.{zeroField, after-hour-stricter, after-
 abbrev pub bytes : List ℕ
 bytes = 84 ∷ 58 ∷ 44 ∷ 46 ∷ 43 ∷ 45 ∷ 90 ∷ []
 
+-- ---- the fraction, and the offset
+
+pub point-item : (u : TimeUnit) (z : Bool) (mi se : ℕ) → Item bytes (byte 44) 2 2 Anything (timeFraction u z mi se)
+unfolding timeFraction
+point-item u z mi se = map-item _ (after-item (either-mark 44 46 refl refl) (λ _. digits-item z))
+  where
+    digits-item : (z : Bool) → Item bytes isDigit 1 1 Anything (fractionIf z)
+    digits-item false = fraction-item
+    digits-item true = zero-fraction-item
+
+pub millisecond-tail : (u : TimeUnit) (z : Bool) (mi se : ℕ) → Tail bytes 2 (millisecond u z mi se)
+unfolding millisecond
+millisecond-tail u z mi se = map-tail _ (opt-tail (point-item u z mi se))
+
+pub offset-tail : (h : ℕ) (k : Clock) → Tail bytes 2 (timeOffset h k)
+unfolding timeOffset
+offset-tail h k = map-tail _ (opt-tail (widen refl offset-item))
+
 -- ---- behind any hour but one that ends the day
 
-point-item : (u : TimeUnit) (mi se : ℕ) → Item bytes (byte 44) 2 2 Anything (timeFraction u false mi se)
-unfolding timeFraction
-point-item u mi se = map-item _ (after-item (either-mark 44 46 refl refl) (λ _. fraction-item))
-
 second-tail : (r : Reading) (mi : ℕ) → Tail bytes 2 (secondMillisecond r false mi)
-unfolding secondMillisecond millisecond
-second-tail r mi = seq-tail (opt-tail (preceded-item 58 refl refl (field-item 2 0 60 refl))) (λ se. map-tail _ (opt-tail (point-item (unitOf r se) mi (orZero se))))
+unfolding secondMillisecond
+second-tail r mi = seq-tail (opt-tail (preceded-item 58 refl refl (field-item 2 0 60 refl))) (λ se. millisecond-tail (unitOf r se) false mi (orZero se))
 
 minute-item : (r : Reading) → Item bytes isDigit 2 2 Anything (minuteSecondMillisecond r false)
 unfolding minuteSecondMillisecond
@@ -55,13 +68,9 @@ minute-item r = seq-item (preceded-item 58 refl refl (field-item 2 0 59 refl)) (
 behind-item : (r : Reading) → Item bytes isDigit 2 2 Anything (behindHour r false)
 unfolding behindHour
 behind-item Old = minute-item Old
-behind-item Standard = alt-item (minute-item Standard) (point-item Hour 0 0)
+behind-item Standard = alt-item (minute-item Standard) (point-item Hour false 0 0)
 
-offset-tail : (h : ℕ) (k : Clock) → Tail bytes 2 (timeOffset h k)
-unfolding timeOffset
-offset-tail h k = map-tail _ (opt-tail (widen refl offset-item))
-
-after-hour-tail : (r : Reading) (h : ℕ) → Tail bytes 2 (afterHour r false h)
+pub after-hour-tail : (r : Reading) (h : ℕ) → Tail bytes 2 (afterHour r false h)
 unfolding afterHour
 after-hour-tail r h = seq-tail (opt-tail (behind-item r)) (λ k. offset-tail h (orWhole 0 0 k))
 
@@ -70,21 +79,17 @@ after-hour-tail r h = seq-tail (opt-tail (behind-item r)) (λ k. offset-tail h (
 zero-steady : (hi : ℕ) → Steady (Outside bytes) (field 2 0 hi) → Steady (Outside bytes) (zeroField hi)
 zero-steady hi h = seq-steady (opt-steady (lit-mark {l = bytes} 58 refl .item .lawful .steady)) (λ _. must-steady _ no-form h)
 
-point-steady : (u : TimeUnit) (mi se : ℕ) → Steady (Outside bytes) (timeFraction u true mi se)
-unfolding timeFraction
-point-steady u mi se = map-steady _ (seq-steady (either-mark {l = bytes} 44 46 refl refl .item .lawful .steady) (λ _. run-steady fractionOf (most-growing 0) no-form (outside-digit bytes)))
-
 minute-steady : (r : Reading) → Steady (Outside bytes) (minuteSecondMillisecond r true)
-unfolding minuteSecondMillisecond secondMillisecond millisecond
+unfolding minuteSecondMillisecond secondMillisecond
 minute-steady r =
     seq-steady (zero-steady 59 (field-item {l = bytes} 2 0 59 refl .lawful .steady)) (λ mi.
     seq-steady (opt-steady (zero-steady 60 (field-item {l = bytes} 2 0 60 refl .lawful .steady))) (λ se.
-    map-steady _ (opt-steady (point-steady (unitOf r se) mi (orZero se)))))
+    millisecond-tail (unitOf r se) true mi (orZero se) .lawful .steady))
 
 behind-steady : (r : Reading) → Steady (Outside bytes) (behindHour r true)
 unfolding behindHour
 behind-steady Old = minute-steady Old
-behind-steady Standard = alt-steady (minute-steady Standard) (point-steady Hour 0 0)
+behind-steady Standard = alt-steady (minute-steady Standard) (point-item Hour true 0 0 .lawful .steady)
 
 minute-fails : (r : Reading) → Fails (minuteSecondMillisecond r true)
 unfolding minuteSecondMillisecond opt seq
@@ -112,7 +117,7 @@ abbrev pub MayStop : Edition → Type 0
 MayStop E2019 = ⊥
 MayStop E2004 = Unit
 
-hour-item : (e : Edition) → Item bytes isDigit 2 2 Anything (hourOf e)
+pub hour-item : (e : Edition) → Item bytes isDigit 2 2 Anything (hourOf e)
 hour-item E2019 = field-item 2 0 23 refl
 hour-item E2004 = field-item 2 0 24 refl
 

@@ -1,0 +1,13 @@
+pub mod Tried
+pub mod Apart
+pub mod FollowedLaws
+pub mod Shut
+pub mod Parting
+pub mod Kept
+pub mod Beside
+pub mod Alternatives
+pub mod Repeat
+pub mod Laws
+pub mod Telling
+pub mod First
+pub mod Whole
