@@ -53,7 +53,7 @@ month-takes : (y : ℤ) → Takes 2 (monthAndDay y)
 unfolding monthAndDay dayOfMonth
 month-takes y = seq-takes (field-takes 2 1 12) (λ m. map-takes _ (map-takes _ (opt-takes (preceded-takes 45 (field-takes 2 1 31)))))
 
-after-year-takes : (y : ℤ) → Takes 3 (afterYear y)
+pub after-year-takes : (y : ℤ) → Takes 3 (afterYear y)
 unfolding afterYear mdNumeric ordinal
 after-year-takes y =
     alt-takes (preceded-takes 45 (week-takes y))

@@ -33,7 +33,7 @@ behind-item Standard = alt-item (minute-item Standard) (time.point-item Hour tru
 
 -- ---- behind any hour
 
-tail-of : (r : Reading) (z : Bool) (h : ℕ) → Tail time.bytes 2 (tailOf r z h)
+pub tail-of : (r : Reading) (z : Bool) (h : ℕ) → Tail time.bytes 2 (tailOf r z h)
 unfolding tailOf zeroTail
 tail-of r false h = time.after-hour-tail r h
 tail-of r true h = seq-tail (opt-tail (behind-item r)) (λ k. time.offset-tail h (orWhole 0 0 k))

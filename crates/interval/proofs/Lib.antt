@@ -11,3 +11,4 @@ pub mod Laws
 pub mod Telling
 pub mod First
 pub mod Whole
+pub mod Far
