@@ -20,11 +20,12 @@ use Rattle.time.proofs.Laws.{time-too-few}
 use Rattle.offset.proofs.Laws.{plus-too-few, plus-open}
 use Rattle.datetime.proofs.Laws.{datetime-too-few}
 use Rattle.duration.proofs.Laws.{duration-too-few}
+use Rattle.interval.proofs.Far as interval
 use Rattle.kinds.specs.declared.answer.Kind.{Kind}
 use Rattle.kinds.specs.declared.answer.Kind.the-variants as kind
 use Rattle.kinds.specs.declared.answer.Read.{Read}
 use Rattle.kinds.specs.Kinds.{ruleOf, bound, Reads}
-use Rattle.kinds.specs.Far.{answerOf, Bytes, Near, NoneShorter, Needs, farthest}
+use Rattle.kinds.specs.Far.{answerOf, Bytes, Near, OfFive, NoneShorter, Needs, farthest}
 use Rattle.kinds.proofs.Laws.{bytes, lawful, stable, open-where, empty-open}
 
 -- ---- what a kind never takes may be left out, and all behind it: so a continuation is one of bytes
@@ -77,16 +78,21 @@ enough k s x another = go (ruleOf k .more s 0) refl
     go true e = judged-near (bound k) k s (omega arith) (open-where k s e)
     go false e = absurd (another (rw (stable k s x 0 e .reads)))
 
-within-ten : (k : Kind) → bound k ≤ 10
-within-ten kind.Date = omega arith
-within-ten (kind.Time c) = omega arith
-within-ten kind.Offset = omega arith
-within-ten (kind.Stamp c) = omega arith
-within-ten kind.Duration = omega arith
+within-ten : (k : Kind) → OfFive k → bound k ≤ 10
+within-ten kind.Date five = omega arith
+within-ten (kind.Time c) five = omega arith
+within-ten kind.Offset five = omega arith
+within-ten (kind.Stamp c) five = omega arith
+within-ten kind.Duration five = omega arith
+within-ten (kind.Interval c) five = absurd five
 
 -- "every open verdict of the five kinds, in both editions and both readings, has a continuation of at most ten bytes that changes the answer"
-pub ten : (k : Kind) (s : List ℕ) (r : Read) → Reads k s r → r .verdict ≡ Open → Near 10 k s
-ten k s r reads e = judged-near 10 k s (within-ten k) (rw e at (reads .verdict))
+pub ten : (k : Kind) → OfFive k → (s : List ℕ) (r : Read) → Reads k s r → r .verdict ≡ Open → Near 10 k s
+ten k five s r reads e = judged-near 10 k s (within-ten k five) (rw e at (reads .verdict))
+
+-- W12: "Demand 3 includes this kind, with fourteen bytes in place of W11's ten"
+pub fourteen : (c : Choices) (s : List ℕ) (r : Read) → Reads (kind.Interval c) s r → r .verdict ≡ Open → Near 14 (kind.Interval c) s
+fourteen c s r reads e = judged-near 14 (kind.Interval c) s (omega arith) (rw e at (reads .verdict))
 
 -- ---- and it is needed
 
@@ -100,6 +106,7 @@ none-shorter (kind.Time c) x h = nothing-yet (kind.Time c) (map-too-few _ (time-
 none-shorter kind.Offset x h = rw (plus-too-few x (omega arith), plus-too-few [] (omega arith))
 none-shorter (kind.Stamp c) x h = nothing-yet (kind.Stamp c) (map-too-few _ (datetime-too-few c)) x (omega arith)
 none-shorter kind.Duration x h = nothing-yet kind.Duration (map-too-few _ duration-too-few) x (omega arith)
+none-shorter (kind.Interval c) x h = rw (interval.plus-too-few c x (omega arith), interval.plus-too-few c [] (omega arith))
 
 open-there : (k : Kind) → Judged (bound k) (ruleOf k) (farthest k) Open
 unfolding map
@@ -108,6 +115,7 @@ open-there (kind.Time c) = empty-open (kind.Time c)
 open-there kind.Offset = open-where kind.Offset (43 ∷ []) plus-open
 open-there (kind.Stamp c) = empty-open (kind.Stamp c)
 open-there kind.Duration = empty-open kind.Duration
+open-there (kind.Interval c) = open-where (kind.Interval c) (43 ∷ []) (interval.plus-open c)
 
 -- so it is the least
 pub needed : (k : Kind) → Needs (bound k) k (farthest k)
@@ -116,3 +124,7 @@ needed k = record { near = judged-near (bound k) k (farthest k) (omega arith) (o
 -- "and that ten is needed: an empty date-time has none shorter"
 pub ten-needed : (c : Choices) → Needs 10 (kind.Stamp c) []
 ten-needed c = needed (kind.Stamp c)
+
+-- "(a lone `+` needs them)"
+pub fourteen-needed : (c : Choices) → Needs 14 (kind.Interval c) (43 ∷ [])
+fourteen-needed c = needed (kind.Interval c)

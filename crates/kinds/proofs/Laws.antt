@@ -21,22 +21,24 @@ use Rattle.time.proofs.Laws.{MayStop, time-item}
 use Rattle.offset.proofs.Laws.{offset-item}
 use Rattle.datetime.proofs.Laws.{datetime-item}
 use Rattle.duration.proofs.Laws.{duration-item}
+use Rattle.interval.proofs.Laws.{interval-item}
 use Rattle.kinds.specs.declared.answer.Kind.{Kind}
 use Rattle.kinds.specs.declared.answer.Kind.the-variants as kind
 use Rattle.kinds.specs.declared.answer.Record.{Record}
 use Rattle.kinds.specs.Kinds.{ruleOf, bound}
 
--- what a record takes beside digits: `+`, `-`, `W`, `T`, `:`, `,`, `.`, `Z`, and a duration's letters
+-- what a record takes beside digits: `+`, `-`, `W`, `T`, `:`, `,`, `.`, `Z`, a duration's letters, and an interval's `R` and `/`
 abbrev pub bytes : List ℕ
-bytes = 43 ∷ 45 ∷ 87 ∷ 84 ∷ 58 ∷ 44 ∷ 46 ∷ 90 ∷ 80 ∷ 89 ∷ 77 ∷ 68 ∷ 72 ∷ 83 ∷ []
+bytes = 43 ∷ 45 ∷ 87 ∷ 84 ∷ 58 ∷ 44 ∷ 46 ∷ 90 ∷ 80 ∷ 89 ∷ 77 ∷ 68 ∷ 72 ∷ 83 ∷ 82 ∷ 47 ∷ []
 
--- whether a completion may stop the reading: behind an hour that ends the day
+-- whether what is found may be lost to a completion: behind an hour that ends the day
 abbrev pub MayStopOf : Kind → Type 0
 MayStopOf kind.Date = ⊥
 MayStopOf (kind.Time c) = MayStop (c .edition)
 MayStopOf kind.Offset = ⊥
 MayStopOf (kind.Stamp c) = MayStop (c .edition)
 MayStopOf kind.Duration = ⊥
+MayStopOf (kind.Interval c) = MayStop (c .edition)
 
 -- stable, within the input, deaf to every other byte, and hopeful with its bound; and past the end nothing is found, and it is open there
 record LawsOf (k : Kind) : Type 0 where
@@ -53,6 +55,7 @@ laws (kind.Time c) = of-item (widen refl (map-item _ (time-item c)))
 laws kind.Offset = of-item (widen refl (map-item _ offset-item))
 laws (kind.Stamp c) = of-item (widen refl (map-item _ (datetime-item c)))
 laws kind.Duration = of-item (widen refl (map-item _ duration-item))
+laws (kind.Interval c) = of-item (map-item _ (interval-item c))
 
 pub lawful : (k : Kind) → LawfulOr (MayStopOf k) bytes (bound k) Anything (ruleOf k)
 lawful k = laws k .lawful
@@ -89,7 +92,7 @@ four-answers k s = go (ruleOf k .reads s 0) refl
     go (stop r) e = omega (arith, stops-by k s 0 r e)
     go (got a n) e = whole a n (ltb n (length s))
 
--- where a byte more could matter, so many bytes, or fewer, are read to the last one, or stop the reading
+-- where a byte more could matter, so many bytes, or fewer, are read to the last one, or what is found now is lost to them
 pub hopeful : (k : Kind) → HopefulOr (MayStopOf k) (bound k) Anything (ruleOf k)
 hopeful k = lawful k .hopeful
 
@@ -104,7 +107,7 @@ open-where k s e = says k s _ true (record { found = refl; more = sym e }) .verd
 pub empty-open : (k : Kind) → Judged (bound k) (ruleOf k) [] Open
 empty-open k = open-where k [] (laws k .eager [] 0 (omega arith))
 
--- ---- where no completion may stop the reading, an open text has one that the whole reader accepts
+-- ---- where nothing may be lost to a completion, an open text has one that the whole reader accepts
 
 pub record Completed (k : Kind) (s : List ℕ) : Type 0 where
   pub more : List ℕ

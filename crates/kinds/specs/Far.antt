@@ -24,6 +24,15 @@ pub record Near (n : ℕ) (k : Kind) (s : List ℕ) : Type 0 where
   pub few : length more ≤ n
   pub another : answerOf k (s ++ more) ≡ answerOf k s → ⊥
 
+-- "of the five kinds"
+abbrev pub OfFive : Kind → Type 0
+OfFive kind.Date = Unit
+OfFive (kind.Time c) = Unit
+OfFive kind.Offset = Unit
+OfFive (kind.Stamp c) = Unit
+OfFive kind.Duration = Unit
+OfFive (kind.Interval c) = ⊥
+
 -- "has none shorter"
 abbrev pub NoneShorter : ℕ → Kind → List ℕ → Type 0
 NoneShorter n k s = (x : List ℕ) → length x < n → answerOf k (s ++ x) ≡ answerOf k s
@@ -33,10 +42,12 @@ pub record Needs (n : ℕ) (k : Kind) (s : List ℕ) : Type 0 where
   pub near : Near n k s
   pub none-shorter : NoneShorter n k s
 
--- an input of each kind that needs as many as any: a `+`, since a `Z` alone is an offset; of the others the empty one
+-- an input of each kind that needs as many as any: a `+`, since a `Z` alone is an offset, and three bytes alone an interval; of the others the
+-- empty one
 abbrev pub farthest : Kind → List ℕ
 farthest kind.Date = []
 farthest (kind.Time c) = []
 farthest kind.Offset = 43 ∷ []
 farthest (kind.Stamp c) = []
 farthest kind.Duration = []
+farthest (kind.Interval c) = 43 ∷ []

@@ -13,6 +13,7 @@ use Rattle.time.specs.Rules.{time}
 use Rattle.offset.specs.Rules.{offset}
 use Rattle.datetime.specs.Rules.{dateTime}
 use Rattle.duration.specs.Rules.{duration}
+use Rattle.interval.specs.Once.{interval}
 use Rattle.kinds.specs.declared.answer.Kind.{Kind}
 use Rattle.kinds.specs.declared.answer.Kind.the-variants as kind
 use Rattle.kinds.specs.declared.answer.Record.{Record}
@@ -29,6 +30,7 @@ ruleOf (kind.Time c) = map record-of.Time (time c)
 ruleOf kind.Offset = map record-of.Offset offset
 ruleOf (kind.Stamp c) = map record-of.Stamp (dateTime c)
 ruleOf kind.Duration = map record-of.Duration duration
+ruleOf (kind.Interval c) = map record-of.Interval (interval c)
 
 -- what a kind was named with; document 01's choices where its rule has none
 abbrev pub choicesIn : Kind → Choices
@@ -37,6 +39,7 @@ choicesIn (kind.Time c) = c
 choicesIn kind.Offset = document01
 choicesIn (kind.Stamp c) = c
 choicesIn kind.Duration = document01
+choicesIn (kind.Interval c) = c
 
 -- so many bytes, or fewer, change the answer where it is open, and there is an input that needs as many (`Far.antt`)
 abbrev pub bound : Kind → ℕ
@@ -45,13 +48,14 @@ bound (kind.Time c) = 2
 bound kind.Offset = 2
 bound (kind.Stamp c) = 10
 bound kind.Duration = 3
+bound (kind.Interval c) = 14
 
--- "a letter `d`, `t`, `o`, `s` or `p` (date, time, offset, date-time, duration)"
+-- "a letter `d`, `t`, `o`, `s` or `p` (date, time, offset, date-time, duration)", and W12's `i`
 abbrev pub letterOf : Choices → ℕ → Letter
 letterOf c b =
     pick (eqb b 100) (Names kind.Date)
     (pick (eqb b 116) (Names (kind.Time c))
-    (pick (eqb b 111) (Names kind.Offset) (pick (eqb b 115) (Names (kind.Stamp c)) (pick (eqb b 112) (Names kind.Duration) Unknown))))
+    (pick (eqb b 111) (Names kind.Offset) (pick (eqb b 115) (Names (kind.Stamp c)) (pick (eqb b 112) (Names kind.Duration) (pick (eqb b 105) (Names (kind.Interval c)) Unknown)))))
 
 -- the paper's number, the record if there is one, and the count
 abbrev pub told : Answer → Told Record

@@ -6,6 +6,7 @@ use types::Choices;
 use types::Date;
 use types::DateTime;
 use types::Duration;
+use types::Interval;
 use types::Offset;
 use types::Refusal;
 use types::Time;
@@ -18,6 +19,7 @@ pub enum Kind {
     Offset,
     Stamp(Choices),
     Duration,
+    Interval(Choices),
 }
 
 impl Kind {
@@ -31,6 +33,7 @@ impl Kind {
             Kind::Offset => Choices::DOCUMENT_01,
             Kind::Stamp(choices) => choices,
             Kind::Duration => Choices::DOCUMENT_01,
+            Kind::Interval(choices) => choices,
         }
     }
 }
@@ -42,6 +45,7 @@ pub enum Record {
     Offset(Offset),
     Stamp(DateTime),
     Duration(Duration),
+    Interval(Interval),
 }
 
 // A record with the count of its bytes; or a refusal with the bytes that the form took, 0 unless bytes are left over.

@@ -1,4 +1,4 @@
-// One face over the five kinds: a kind as a value, and the two readers and the rest of the kind that is named. Each does what the
+// One face over the six kinds: a kind as a value, and the two readers and the rest of the kind that is named. Each does what the
 // kind's own function does; who knows the kind calls that, and is served faster.
 ghost use mathlib.Core.Path.{_≡_};
 ghost use Rattle.parser.specs.Answer.{Rest};
@@ -7,6 +7,7 @@ ghost use Rattle.times.specs.Answer.{timeTold};
 ghost use Rattle.offsets.specs.Answer.{offsetTold};
 ghost use Rattle.datetimes.specs.Answer.{dateTimeTold};
 ghost use Rattle.durations.specs.Answer.{durationTold};
+ghost use Rattle.intervals.specs.Answer.{intervalTold};
 ghost use Rattle.kinds.specs.Kinds.{ruleOf, letterOf, told, toldAs, Reads, Parses};
 use crate::answer::Answer;
 use crate::answer::Kind;
@@ -19,6 +20,8 @@ use datetimes::DateTimeAnswer;
 use datetimes::DateTimeRead;
 use durations::DurationAnswer;
 use durations::DurationRead;
+use intervals::IntervalAnswer;
+use intervals::IntervalRead;
 use offsets::OffsetAnswer;
 use offsets::OffsetRead;
 use times::TimeAnswer;
@@ -37,6 +40,7 @@ pub fn kind_of(letter: u8, choices: Choices) -> Letter
         b'o' => Letter::Names(Kind::Offset),
         b's' => Letter::Names(Kind::Stamp(choices)),
         b'p' => Letter::Names(Kind::Duration),
+        b'i' => Letter::Names(Kind::Interval(choices)),
         _ => Letter::Unknown,
     }
 }
@@ -156,6 +160,29 @@ fn duration_read(read: DurationRead) -> Read
     }
 }
 
+fn of_interval(answer: IntervalAnswer) -> Answer
+    ensures { λ r. ⌜ told r ≡ toldAs Record.Interval (intervalTold answer) ⌝ }
+{
+    match answer {
+        IntervalAnswer::Record { value, count } => Answer::Record {
+            value: Record::Interval(value),
+            count,
+        },
+        IntervalAnswer::Refused { why, count } => Answer::Refused { why, count },
+    }
+}
+
+fn interval_read(read: IntervalRead) -> Read
+    ensures { λ r. ⌜ (told (r .answer) ≡ toldAs Record.Interval (intervalTold (read .answer))) × (r .verdict ≡ read .verdict) ⌝ }
+{
+    let answer = read.answer;
+    let verdict = read.verdict;
+    Read {
+        answer: of_interval(answer),
+        verdict,
+    }
+}
+
 // Reads the record of a kind that the bytes begin with.
 pub fn read(kind: Kind, s: &[u8]) -> Read
     ensures { λ r. ⌜ Reads kind (now (s .entry)) r ⌝ }
@@ -166,6 +193,7 @@ pub fn read(kind: Kind, s: &[u8]) -> Read
         Kind::Offset => offset_read(offsets::offset(s)),
         Kind::Stamp(choices) => datetime_read(datetimes::datetime(s, choices)),
         Kind::Duration => duration_read(durations::duration(s)),
+        Kind::Interval(choices) => interval_read(intervals::interval(s, choices)),
     }
 }
 
@@ -179,6 +207,7 @@ pub fn rest(kind: Kind, s: &[u8]) -> &[u8]
         Kind::Offset => offsets::offset_rest(s),
         Kind::Stamp(choices) => datetimes::datetime_rest(s, choices),
         Kind::Duration => durations::duration_rest(s),
+        Kind::Interval(choices) => intervals::interval_rest(s, choices),
     }
 }
 
@@ -192,5 +221,6 @@ pub fn parse(kind: Kind, s: &[u8]) -> Answer
         Kind::Offset => of_offset(offsets::parse_offset(s)),
         Kind::Stamp(choices) => of_datetime(datetimes::parse_datetime(s, choices)),
         Kind::Duration => of_duration(durations::parse_duration(s)),
+        Kind::Interval(choices) => of_interval(intervals::parse_interval(s, choices)),
     }
 }
