@@ -3,6 +3,7 @@
 use Prim.Native.Nat.{ℕ, _+_, _-_, _*_, _<_, _≤_}
 use mathlib.Core.List.{List, [], _∷_, _++_, append-assoc}
 use mathlib.Core.Bool.{Bool, true, false}
+use mathlib.Core.Logic.{inl, inr}
 use mathlib.Core.Path.{_≡_, refl, sym, _∙_}
 use native.Mathlib.Omega.{arith}
 use lib.ListN.{length, getD, replicate, length-append, List·getD-append, List·getD-eq-default}
@@ -15,13 +16,15 @@ use Rattle.parser.specs.Digits.{isDigit, digits, number, numberFrom, runAt, ofR
 use Rattle.parser.specs.Fields.{either}
 use Rattle.parser.proofs.Fields.{true≢false, and-first, and-second}
 use Rattle.parser.proofs.Places.{no≢got, stop≢got, got-place, Bounded, seq-bounded, alt-bounded, lit-bounded, run-bounded, run-foreign}
+use Rattle.parser.proofs.Lawful.{told-apart}
 use Rattle.parser.proofs.RunLeaves.{of-run}
 use Rattle.shortening.specs.Points.{isPoint}
-use Rattle.shortening.proofs.Cuts.{Cut, whole, kept, Place, behind, Carried, Simulates}
+use Rattle.shortening.proofs.Cuts.{Cut, Place, behind, Carried, SameAt, Simulates, seq-simulates, alt-simulates}
 use Rattle.shortening.proofs.Local.{Local, lit-local, run-local, alt-local, seq-local}
-use Rattle.shortening.proofs.Spans.{Spans}
-use Rattle.shortening.proofs.Trims.{fractions, FractionCut, cut, allDigits, Normal, Trims, same-before, simulates-by}
-use Rattle.shortening.proofs.Fields.{point-no-digit}
+use Rattle.shortening.proofs.Spans.{SpansAt}
+use Rattle.shortening.proofs.Families.{zeros, fractions, FractionCut, own, behindSlash, CutOf, cut, apart, allDigits, Reaches, reaches-one, reaches-run, Normal}
+use Rattle.shortening.proofs.Trims.{Trims, same-before, simulates-by, foreign-simulates, lit-trims}
+use Rattle.shortening.proofs.Fields.{point-no-digit, apart-no-digit}
 
 -- ---- the fraction: nine digits decide
 
@@ -121,10 +124,10 @@ module _ (may : ℕ → Bool) (r : ℕ) (joined : Joined may) where
       go true e = sym (got-place e)
       go false e = absurd (stop≢got e)
 
-  value-same : (z : FractionCut) (x : List ℕ) (m n : ℕ) → Place (cut fractions z) m n → Carried (cut fractions z) (value (z .nine ++ (z .tenth ∷ z .next ∷ x)) m) (value (z .nine ++ (z .one ∷ x)) n)
+  value-same : (z : FractionCut) (x : List ℕ) (m n : ℕ) → Place (own fractions z) m n → Carried (own fractions z) (value (z .nine ++ (z .tenth ∷ z .next ∷ x)) m) (value (z .nine ++ (z .one ∷ x)) n)
   value-same z x m n e = rw (joined z x, same-fraction z x) (go (fractionOf (z .nine ++ (z .one ∷ x))) (may (number (z .nine ++ (z .one ∷ x)))))
     where
-      go : (f : Fraction) (t : Bool) → Carried (cut fractions z) (pick t (got f m) (stop r)) (pick t (got f n) (stop r))
+      go : (f : Fraction) (t : Bool) → Carried (own fractions z) (pick t (got f m) (stop r)) (pick t (got f n) (stop r))
       go f true = record { place = m; found = refl; same = e }
       go f false = refl
 
@@ -155,19 +158,19 @@ module _ (may : ℕ → Bool) (r : ℕ) (joined : Joined may) where
       go [] e = absurd (no≢got e)
       go (b ∷ d) e = value-ends (b ∷ d) (at + length (b ∷ d)) a n e
 
-  point-spans : (s : List ℕ) → Normal fractions s → (at : ℕ) → Spans (λ _. Unit) s 11 at (point .more s at) (point .reads s at)
-  point-spans s few at = record { opens = λ o. opened (ltb at (length s)) refl o; ends = λ a n e. (ended a n (isPoint (getD s at 0)) refl (sym (point-at s at) ∙ e), tt) }
+  point-spans : (s : List ℕ) (from : ℕ) → Normal fractions s from → (at : ℕ) → Reaches s from at → SpansAt (Reaches s from) s 11 at point
+  point-spans s from few at g = record { opens = λ o. opened (ltb at (length s)) refl o; ends = λ a n e. ended a n (isPoint (getD s at 0)) refl (sym (point-at s at) ∙ e) }
     where
       inside : (t : Bool) → isPoint (getD s at 0) ≡ t → pick t (leaf .more s (at + 1)) false ≡ true → length s ≤ at + 11
-      inside true e o = omega (arith, few at e, ltb-false (at + 1 + length (runAt s (at + 1))) (length s) (not-true (ltb (at + 1 + length (runAt s (at + 1))) (length s)) (leaf-opens s (at + 1) o)))
+      inside true e o = omega (arith, few at g e, ltb-false (at + 1 + length (runAt s (at + 1))) (length s) (not-true (ltb (at + 1 + length (runAt s (at + 1))) (length s)) (leaf-opens s (at + 1) o)))
       inside false e o = absurd (true≢false (sym o))
 
       opened : (t : Bool) → ltb at (length s) ≡ t → point .more s at ≡ true → length s ≤ at + 11
       opened true e o = inside (isPoint (getD s at 0)) refl (sym (point-open s at (ltb-true at (length s) e)) ∙ o)
       opened false e o = omega (arith, ltb-false at (length s) e)
 
-      ended : (a : Fraction) (n : ℕ) (t : Bool) → isPoint (getD s at 0) ≡ t → pick t (leaf .reads s (at + 1)) no ≡ got a n → n ≤ at + 11
-      ended a n true e eg = omega (arith, few at e, leaf-ends s (at + 1) a n eg)
+      ended : (a : Fraction) (n : ℕ) (t : Bool) → isPoint (getD s at 0) ≡ t → pick t (leaf .reads s (at + 1)) no ≡ got a n → (n ≤ at + 11) × Reaches s from n
+      ended a n true e eg = let here = leaf-ends s (at + 1) a n eg in (omega (arith, few at g e), rw here (reaches-run (reaches-one g (told-apart isPoint (getD s at 0) 47 (λ same. true≢false (sym e ∙ same))))))
       ended a n false e eg = absurd (no≢got eg)
 
   -- ---- the same is told
@@ -183,9 +186,9 @@ module _ (may : ℕ → Bool) (r : ℕ) (joined : Joined may) where
 
   module _ (z : FractionCut) where
     abbrev here : Cut
-    here = cut fractions z
+    here = own fractions z
 
-    point-at-cut : Carried here (point .reads (whole here) (length (z .before))) (point .reads (kept here) (length (z .before)))
+    point-at-cut : SameAt here (length (z .before)) (length (z .before)) point
     point-at-cut = rw (at-point (z .before) (z .point) (z .nine) (z .tenth ∷ z .next ∷ []) (z .rest) (z .points) (z .digits) (rw (z .first, z .second)) (omega arith), at-point (z .before) (z .point) (z .nine) (z .one ∷ []) (z .rest) (z .points) (z .digits) (rw (z .either)) (omega arith))
         (value-same z (digits (z .rest)) _ _ (behind (length (digits (z .rest))) refl refl))
 
@@ -199,9 +202,14 @@ module _ (may : ℕ → Bool) (r : ℕ) (joined : Joined may) where
     point-simulates : Simulates here point
     point-simulates = simulates-by here point point-local (λ n le. go n le (ltb n (length (z .before))) refl)
       where
-        go : (n : ℕ) → n ≤ length (z .before) → (t : Bool) → ltb n (length (z .before)) ≡ t → Carried here (point .reads (whole here) n) (point .reads (kept here) n)
+        go : (n : ℕ) → n ≤ length (z .before) → (t : Bool) → ltb n (length (z .before)) ≡ t → SameAt here n n point
         go n le true e = let lt = ltb-true n (length (z .before)) e in same-before here point point-bounded n le (point-before n lt _) (point-before n lt _)
         go n le false e = let end : n ≡ length (z .before) = omega (arith, ltb-false n (length (z .before)) e) in rw end point-at-cut
 
+  -- none of its parts takes a `/`, whatever the family
+  point-cut : (z : CutOf fractions) → Simulates (cut fractions z) point
+  point-cut (inl z) = point-simulates z
+  point-cut (inr z) = seq-simulates (behindSlash z) (either 44 46) (λ _. leaf) (alt-simulates (behindSlash z) (lit 44) (lit 46) (lit-trims zeros 44 refl .simulates (inr z)) (lit-trims zeros 46 refl .simulates (inr z))) (λ _. foreign-simulates fractions leaf (run-local fractionOf may r) (run-bounded fractionOf may r) (run-foreign fractionOf may r (λ b. apart fractions b ≡ true) apart-no-digit) (inr z))
+
   pub point-trims : Trims fractions 11 point
-  point-trims = record { simulates = point-simulates; within = λ s few at g. point-spans s few at }
+  point-trims = record { local = point-local; simulates = point-cut; within = point-spans }

@@ -1,8 +1,12 @@
 pub mod Cuts
 pub mod Local
 pub mod Spans
+pub mod Families
 pub mod Trims
 pub mod Zeros
 pub mod Fields
 pub mod Fractions
 pub mod Rules
+pub mod Sides
+pub mod Intervals
+pub mod Short

@@ -8,8 +8,9 @@ use native.Mathlib.Omega.{arith}
 use lib.ListN.{length, getD}
 use lib.Dec.{ltb, leb, eqb}
 use borrow.Author.Tests.{ltb-true, ltb-false, lt-ltb, le-ltb}
-use Rattle.parser.specs.Reading.{Found, no, got, stop, Reader, lit, seq, then, alt, orElse, pick, and}
+use Rattle.parser.specs.Reading.{Found, no, got, stop, Reader, lit, seq, then, opt, lack, alt, orElse, verify, keep, must, keepOrStop, map, mapFound, give, pick, and}
 use Rattle.parser.specs.Digits.{isDigit, digitsFrom, field, number, runAt, ofRun, runAs}
+use Rattle.interval.specs.Rules.{tried, noFormFails}
 use Rattle.shortening.proofs.Cuts.{Cut, whole, kept, behind, Carried}
 
 -- what is found, so many places further on
@@ -80,6 +81,67 @@ seq-local {A} p q hp hq b s n = rw (hp b s n) (go (p .reads s n))
     go no = refl
     go (stop r) = refl
     go (got a k) = let e : 1 + k ≡ suc k = omega arith in rw e (hq a b s k)
+
+-- what is found of a reading that something is made of
+made-local : {A B : Type 0} (h k : Found A → Found B) (p : Reader A) → Local p → (b : ℕ) (s : List ℕ) (n : ℕ) → ((f : Found A) → h (onward 1 f) ≡ onward 1 (k f)) → h (p .reads (b ∷ s) (suc n)) ≡ onward 1 (k (p .reads s n))
+made-local h k p hp b s n same = rw (hp b s n) (same (p .reads s n))
+
+pub opt-local : {A : Type 0} (p : Reader A) → Local p → Local (opt p)
+unfolding opt
+opt-local {A} p hp b s n = made-local (lack (suc n)) (lack n) p hp b s n same
+  where
+    same : (f : Found A) → lack (suc n) (onward 1 f) ≡ onward 1 (lack n f)
+    same no = let e : suc n ≡ 1 + n = omega arith in rw e
+    same (stop r) = refl
+    same (got a k) = refl
+
+pub verify-local : {A : Type 0} (t : A → Bool) (p : Reader A) → Local p → Local (verify t p)
+unfolding verify
+verify-local {A} t p hp b s n = made-local (keep t) (keep t) p hp b s n same
+  where
+    same : (f : Found A) → keep t (onward 1 f) ≡ onward 1 (keep t f)
+    same no = refl
+    same (stop r) = refl
+    same (got a k) = picked a (1 + k) k (t a) refl
+
+pub must-local : {A : Type 0} (t : A → Bool) (r : ℕ) (p : Reader A) → Local p → Local (must t r p)
+unfolding must
+must-local {A} t r p hp b s n = made-local (keepOrStop t r) (keepOrStop t r) p hp b s n same
+  where
+    test : (a : A) (k : ℕ) (u : Bool) → pick u (got a (1 + k)) (stop r) ≡ onward 1 (pick u (got a k) (stop r))
+    test a k true = refl
+    test a k false = refl
+
+    same : (f : Found A) → keepOrStop t r (onward 1 f) ≡ onward 1 (keepOrStop t r f)
+    same no = refl
+    same (stop q) = refl
+    same (got a k) = test a k (t a)
+
+pub map-local : {A B : Type 0} (t : A → B) (p : Reader A) → Local p → Local (map t p)
+unfolding map
+map-local {A} t p hp b s n = made-local (mapFound t) (mapFound t) p hp b s n same
+  where
+    same : (f : Found A) → mapFound t (onward 1 f) ≡ onward 1 (mapFound t f)
+    same no = refl
+    same (stop r) = refl
+    same (got a k) = refl
+
+pub tried-local : {A : Type 0} (p : Reader A) → Local p → Local (tried p)
+unfolding tried
+tried-local {A} p hp b s n = made-local noFormFails noFormFails p hp b s n same
+  where
+    test : (r : ℕ) (u : Bool) → _≡_ {A = Found A} (pick u no (stop r)) (onward 1 (pick u no (stop r)))
+    test r true = refl
+    test r false = refl
+
+    same : (f : Found A) → noFormFails (onward 1 f) ≡ onward 1 (noFormFails f)
+    same no = refl
+    same (stop r) = test r (eqb r 1)
+    same (got a k) = refl
+
+pub give-local : {A : Type 0} (a : A) → Local (give a)
+unfolding give
+give-local a b s n = ap (got a) (omega arith)
 
 -- ---- so behind what differs, two texts are read the same
 

@@ -18,15 +18,18 @@ use Rattle.time.specs.Rules.{hourOf, endsDay, zeroIf, numbersIf, fractionIf, un
 use Rattle.date.specs.Rules.{date, year, weekAndDay, dayOfWeek, mdNumeric, ordinal, monthAndDay, dayOfMonth}
 use Rattle.datetime.specs.Rules.{dateTime, afterDate, timeOf}
 use Rattle.duration.specs.Rules.{duration, partsRule, durationTime, durationBaseTime}
+use Rattle.interval.specs.Followed.{zeroMinute, zeroBehind, zeroTail, tailOf, followedTime, followed}
+use Rattle.interval.specs.Followed as behind
 use Rattle.kinds.specs.declared.answer.Kind.{Kind}
 use Rattle.kinds.specs.declared.answer.Kind.the-variants as kind
 use Rattle.kinds.specs.Kinds.{ruleOf}
-use Rattle.shortening.proofs.Trims.{Family, zeros, fractions, Trims, lit-trims, seq-trims, opt-trims, alt-trims, verify-trims, must-trims, map-trims, give-trims, preceded-trims, weaken-trims}
+use Rattle.shortening.proofs.Families.{Family, zeros, fractions}
+use Rattle.shortening.proofs.Trims.{Trims, lit-trims, seq-trims, opt-trims, alt-trims, verify-trims, must-trims, map-trims, give-trims, preceded-trims, weaken-trims}
 use Rattle.shortening.proofs.Zeros.{part-trims}
 use Rattle.shortening.proofs.Fields.{field-trims}
 use Rattle.shortening.proofs.Fractions.{zero-joined, Joined, point-trims}
 
-duration-trims : Trims zeros 149 duration
+pub duration-trims : Trims zeros 149 duration
 unfolding duration partsRule durationTime durationBaseTime
 duration-trims =
     map-trims _
@@ -39,7 +42,7 @@ duration-trims =
 signed-trims : Trims fractions 1 signed
 signed-trims = alt-trims (map-trims _ (lit-trims fractions 45 refl)) (map-trims _ (lit-trims fractions 43 refl))
 
-offset-trims : Trims fractions 6 offset
+pub offset-trims : Trims fractions 6 offset
 unfolding offset offsetHour offsetMinute offsetZulu
 offset-trims =
     alt-trims
@@ -81,7 +84,7 @@ base-time-trims : (c : Choices) → Trims fractions 25 (baseTime c)
 unfolding baseTime afterHour timeOffset
 base-time-trims c = seq-trims (hour-trims (c .edition)) (λ h. seq-trims (opt-trims (behind-trims (c .reading) (endsDay (c .edition) h))) (λ _. map-trims _ (opt-trims offset-trims)))
 
-time-trims : (c : Choices) → Trims fractions 26 (time c)
+pub time-trims : (c : Choices) → Trims fractions 26 (time c)
 unfolding time
 time-trims c = preceded-trims 84 refl (base-time-trims c)
 
@@ -89,7 +92,7 @@ year-trims : Trims fractions 5 year
 unfolding year
 year-trims = seq-trims (opt-trims signed-trims) (λ _. map-trims _ (field-trims 4 100 9999))
 
-date-trims : Trims fractions 11 date
+pub date-trims : Trims fractions 11 date
 unfolding date weekAndDay dayOfWeek mdNumeric ordinal monthAndDay dayOfMonth
 date-trims =
     alt-trims
@@ -100,9 +103,32 @@ date-trims =
     (seq-trims year-trims (λ _. preceded-trims 45 refl (map-trims _ (field-trims 3 1 366))))
     (seq-trims year-trims (λ _. seq-trims (lit-trims fractions 45 refl) (λ _. seq-trims (field-trims 2 1 12) (λ _. map-trims _ (map-trims _ (opt-trims (preceded-trims 45 refl (field-trims 2 1 31))))))))))
 
-datetime-trims : (c : Choices) → Trims fractions 37 (dateTime c)
+pub datetime-trims : (c : Choices) → Trims fractions 37 (dateTime c)
 unfolding dateTime afterDate timeOf
 datetime-trims c = seq-trims date-trims (λ _. seq-trims (lit-trims fractions 84 refl) (λ _. map-trims _ (base-time-trims c)))
+
+-- ---- a date-time that something must follow
+
+zeros-trims : Trims fractions 3 behind.zeros
+zeros-trims = preceded-trims 58 refl (field-trims 2 0 0)
+
+zero-minute-trims : (r : Reading) → Trims fractions 17 (zeroMinute r)
+unfolding zeroMinute millisecond
+zero-minute-trims r = seq-trims zeros-trims (λ mi. seq-trims (opt-trims zeros-trims) (λ se. map-trims _ (opt-trims (unit-trims (unitOf r se) true mi (orZero se)))))
+
+zero-behind-trims : (r : Reading) → Trims fractions 17 (zeroBehind r)
+unfolding zeroBehind
+zero-behind-trims Old = zero-minute-trims Old
+zero-behind-trims Standard = alt-trims (zero-minute-trims Standard) (unit-trims Hour true 0 0)
+
+tail-trims : (r : Reading) (z : Bool) (h : ℕ) → Trims fractions 23 (tailOf r z h)
+unfolding tailOf zeroTail afterHour timeOffset
+tail-trims r false h = seq-trims (opt-trims (behind-trims r false)) (λ _. map-trims _ (opt-trims offset-trims))
+tail-trims r true h = seq-trims (opt-trims (zero-behind-trims r)) (λ _. map-trims _ (opt-trims offset-trims))
+
+pub followed-trims : (c : Choices) → Trims fractions 37 (followed c)
+unfolding followed followedTime
+followed-trims c = seq-trims date-trims (λ _. seq-trims (lit-trims fractions 84 refl) (λ _. map-trims _ (seq-trims (hour-trims (c .edition)) (λ h. tail-trims (c .reading) (endsDay (c .edition) h) h))))
 
 -- ---- once over the kind
 
