@@ -66,7 +66,7 @@ run-keeps : Keeps (In (byte 47)) (opt repeatRun)
 run-keeps = foreign-keeps (In (byte 47)) (opt repeatRun) (opt-foreign (In (byte 47)) repeatRun slash-foreign)
 
 digits-item : Item bytes (byte 47) 1 1 Anything digitsAndSlash
-unfolding seq opt repeatRun digitsAndSlash
+unfolding seq opt repeatRun
 digits-item = record {
   lawful = seq-lawful (opt-steady run-steady-here) (λ s at le h. let o = run-read s at le h in ends-weaken 1 AnyByte Anything (omega arith) (λ c x. tt) (λ a f. f) (ends-after (opt repeatRun) slashed s at le run-keeps (o .0) (o .1) (slash-item (o .0) .starts))) (λ n. slash-item n .lawful);
   fails = λ s at h. rw (run-fails-here s at h, slash-item none .fails s at h);

@@ -115,7 +115,6 @@ slashed n = map (λ _. timesOf n) (lit 47)
 
 -- a run, or none, and the `/` behind it
 pub digits-then : (s : List ℕ) (at : ℕ) (f : Found ℕ) (o : Option ℕ) (n : ℕ) (m l : Bool) (g : Found Repetitions) → lack at f ≡ got o n → Says repeatRun s at f m → Says (slashed o) s n g l → Says digitsAndSlash s at g l
-unfolding digitsAndSlash
 digits-then s at f o n m l g e h k = go m h
   where
     reached : placeAfter at f ≡ n
@@ -133,7 +132,6 @@ digits-then s at f o n m l g e h k = go m h
         rw (ended) (says-seq-got (opt repeatRun) s at slashed o n true g l (rw e at (says-opt repeatRun s at f true h)) k)
 
 pub digits-stop : (s : List ℕ) (at : ℕ) → Says repeatRun s at (stop 2) false → Says digitsAndSlash s at (stop 2) false
-unfolding digitsAndSlash
 digits-stop s at h = says-seq-stop (opt repeatRun) s at slashed 2 false (says-opt repeatRun s at (stop 2) false h)
 
 -- nothing has come yet

@@ -29,7 +29,7 @@ orOnce none = Once
 orOnce (some r) = r
 
 -- "{`R`, optional digits, `/`}"
-unfoldable pub digitsAndSlash : Reader Repetitions
+abbrev pub digitsAndSlash : Reader Repetitions
 digitsAndSlash = seq (opt repeatRun) (λ n. map (λ _. timesOf n) (lit 47))
 
 unfoldable pub repeated : Reader Repetitions
