@@ -150,7 +150,7 @@ fn lasting(s: &[u8], at: usize, start: DateTime) -> RangeFound
             next,
             more,
         },
-        DurationFound::TooBig => RangeFound::TooBig,
+        DurationFound::TooBig => RangeFound::TooBig, // ends the reading, though another side stands before it
         DurationFound::Wrong => RangeFound::Wrong,
         DurationFound::Cut => RangeFound::Cut,
     }
