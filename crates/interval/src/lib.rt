@@ -265,7 +265,7 @@ fn after_duration(
             } => RangeFound::Got {
                 value: IntervalRange::ClosedEnd { duration, end },
                 next,
-                more: later,
+                more: later, // the date-time's: behind a / the duration is settled
             },
             DateTimeFound::Stopped => alone(duration, at, false),
             DateTimeFound::Wrong => alone(duration, at, false),
