@@ -23,12 +23,12 @@ use Rattle.arriving.specs.declared.State.{State}
 use Rattle.arriving.specs.Keeping.{carry, moved, textOf, Answers}
 
 -- as many bytes as are kept, and no more than there is room for
-pub held-text : (st : State) (n : ℕ) → length (st .kept) ≡ 150 → n ≡ min (st .len) 150 → take n (st .kept) ≡ textOf st
-held-text st n all e = go (ltb (st .len) 150) refl
+pub held-text : (st : State) (n : ℕ) → length (st .kept) ≡ 200 → n ≡ min (st .len) 200 → take n (st .kept) ≡ textOf st
+held-text st n all e = go (ltb (st .len) 200) refl
   where
-    go : (t : Bool) → ltb (st .len) 150 ≡ t → take n (st .kept) ≡ textOf st
-    go true h = let same : n ≡ st .len = omega (arith, ltb-true (st .len) 150 h) in rw same
-    go false h = let full = ltb-false (st .len) 150 h in take-all n (st .kept) (omega arith) ∙ sym (take-all (st .len) (st .kept) (omega arith))
+    go : (t : Bool) → ltb (st .len) 200 ≡ t → take n (st .kept) ≡ textOf st
+    go true h = let same : n ≡ st .len = omega (arith, ltb-true (st .len) 200 h) in rw same
+    go false h = let full = ltb-false (st .len) 200 h in take-all n (st .kept) (omega arith) ∙ sym (take-all (st .len) (st .kept) (omega arith))
 
 -- a count is moved where there is a record, and a refusal's is none
 moved-record : {A : Type 0} (f : ℕ → ℕ) (x : Found A) (a : A) (n : ℕ) → recorded a n ≡ begun x → recorded a (f n) ≡ begun (moved f x)

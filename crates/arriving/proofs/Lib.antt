@@ -6,3 +6,5 @@ pub mod Moves
 pub mod Pushing
 pub mod Stands
 pub mod Tidy
+pub mod TidyFractions
+pub mod TidyZeros

@@ -14,8 +14,9 @@ use Rattle.kinds.specs.declared.answer.Record.{Record}
 use Rattle.kinds.specs.declared.answer.Record.the-variants as record-of
 use Rattle.kinds.specs.declared.answer.Read.{Read}
 use Rattle.kinds.specs.Kinds.{ruleOf, told}
-use Rattle.shortening.proofs.Trims.{ZeroCut, zeros, cut}
-use Rattle.shortening.proofs.Rules.{trims}
+use Rattle.shortening.proofs.Families.{ZeroCut, zeros, own}
+use Rattle.shortening.proofs.Sides.{one-family}
+use Rattle.shortening.proofs.EachKind.{shortens}
 use Rattle.arriving.specs.Keeping.{started, moved, Answers}
 use Rattle.arriving.specs.Pieces.{steps, acceptedOf}
 use Rattle.arriving.proofs.Moves.{shift}
@@ -36,7 +37,7 @@ one-year = refl
 
 -- one zero more stands before a digit, and moves the place behind it
 zero-more : (d : ℕ) (y : List ℕ) → isDigit d ≡ true → ruleOf kind.Duration .reads (80 ∷ 48 ∷ d ∷ y) 0 ≡ moved (shift 1) (ruleOf kind.Duration .reads (80 ∷ d ∷ y) 0)
-zero-more d y is = let z : ZeroCut = record { before = 80 ∷ []; digit = d; rest = y; starts = refl; is = is } in simulated (cut zeros z) (ruleOf kind.Duration) 1 (trims kind.Duration .simulates z) (omega arith) refl refl
+zero-more d y is = let z : ZeroCut = record { before = 80 ∷ []; digit = d; rest = y; starts = refl; is = is } in simulated (own zeros z) (ruleOf kind.Duration) 1 (shortens kind.Duration .simulates zeros z (rw (one-family zeros (80 ∷ [])))) (omega arith) refl refl
 
 pub long-zeros : (n : ℕ) → ruleOf kind.Duration .reads (80 ∷ zerosAndOne n) 0 ≡ got oneYear (n + 3)
 long-zeros zero = one-year

@@ -10,10 +10,12 @@ use lib.ListN.{length, getD, take, drop, set, length-drop, take-append-drop, dro
 use lib.Seq.{take-suc, take-all, drop-cons, getD-drop, set-getD, set-set}
 use lib.Dec.{ltb, eqb}
 use borrow.Author.Tests.{lt-ltb, le-ltb, ne-eqb, ltb-true, eqb-true}
-use Rattle.parser.specs.Reading.{pick, and}
+use Rattle.parser.specs.Reading.{pick, or, and}
 use Rattle.parser.specs.Digits.{isDigit}
+use Rattle.parser.proofs.Fields.{and-first}
+use Rattle.shortening.specs.Sides.{hasSides}
 use Rattle.arriving.specs.declared.State.{State}
-use Rattle.arriving.specs.Keeping.{dropsZeros, nextMark, joined, joinsTo, joins, counted, keptAt, pushOne, pushes, zeroRun, carry}
+use Rattle.arriving.specs.Keeping.{nextMark, joinable, joined, joinsTo, joins, counted, keptAt, pushOne, pushes, zeroRun, carry}
 
 -- two pieces are one piece
 pub pushes-append : (st : State) (p q : List ℕ) → pushes st (p ++ q) ≡ pushes (pushes st p) q
@@ -21,16 +23,16 @@ unfolding pushes
 pushes-append st [] q = refl
 pushes-append st (b ∷ p) q = pushes-append (pushOne st b) p q
 
--- the bytes past the eightieth are only counted
+-- the bytes behind the last that is kept are only counted
 abbrev pub counts : State → ℕ → State
 counts st n = record { kind = st .kind; kept = st .kept; places = st .places; len = st .len; mark = st .mark; accepted = st .accepted + n }
 
-pub pushes-full : (st : State) (p : List ℕ) → 150 ≤ st .len → pushes st p ≡ counts st (length p)
+pub pushes-full : (st : State) (p : List ℕ) → 200 ≤ st .len → pushes st p ≡ counts st (length p)
 unfolding pushes pushOne
 pushes-full st [] h = rw add-zero
 pushes-full st (b ∷ p) h =
     let e : st .accepted + suc (length p) ≡ st .accepted + 1 + length p = omega arith in
-    rw (le-ltb (st .len) 150 h, e) (pushes-full (counted st) p h)
+    rw (le-ltb (st .len) 200 h, e) (pushes-full (counted st) p h)
 
 -- a byte leaves the kind, and is counted
 pick-same : {A : Type 0} (f : State → A) (x : A) (a b : State) (t : Bool) → f a ≡ x → f b ≡ x → f (pick t a b) ≡ x
@@ -39,11 +41,11 @@ pick-same f x a b false p q = q
 
 pub one-kind : (st : State) (b : ℕ) → pushOne st b .kind ≡ st .kind
 unfolding pushOne
-one-kind st b = pick-same (λ (so : State). so .kind) _ _ _ (ltb (st .len) 150) (pick-same (λ (so : State). so .kind) _ _ _ (joins st b) refl refl) refl
+one-kind st b = pick-same (λ (so : State). so .kind) _ _ _ (ltb (st .len) 200) (pick-same (λ (so : State). so .kind) _ _ _ (joins st b) refl refl) refl
 
 one-count : (st : State) (b : ℕ) → pushOne st b .accepted ≡ st .accepted + 1
 unfolding pushOne
-one-count st b = pick-same (λ (so : State). so .accepted) _ _ _ (ltb (st .len) 150) (pick-same (λ (so : State). so .accepted) _ _ _ (joins st b) refl refl) refl
+one-count st b = pick-same (λ (so : State). so .accepted) _ _ _ (ltb (st .len) 200) (pick-same (λ (so : State). so .accepted) _ _ _ (joins st b) refl refl) refl
 
 -- the state after the first i bytes of a piece
 pub record Pushed (st : State) (piece : List ℕ) (so : State) (i : ℕ) : Type 0 where
@@ -61,7 +63,7 @@ module _ (st : State) (piece : List ℕ) (so : State) (i : ℕ) (g : Pushed st p
   pub pushed-all : length piece ≤ i → counts so (length piece - i) ≡ pushes st piece
   pushed-all h = let none : so .accepted + (length piece - i) ≡ so .accepted = omega arith in rw (none, ← (take-all i piece h)) (g .is)
 
-  pub pushed-full : 150 ≤ so .len → counts so (length piece - i) ≡ pushes st piece
+  pub pushed-full : 200 ≤ so .len → counts so (length piece - i) ≡ pushes st piece
   pushed-full h = cc (length-drop i piece, pushes-full so (drop i piece) h, pushes-append st (take i piece) (drop i piece), take-append-drop i piece)
 
   module _ (h : i < length piece) where
@@ -74,7 +76,7 @@ module _ (st : State) (piece : List ℕ) (so : State) (i : ℕ) (g : Pushed st p
       is = rw (add-one, take-suc piece i 0, pushes-append, ← (g .is));
     }
 
-    module _ (m : ℕ) (me : m ≡ nextMark (dropsZeros (so .kind)) (so .mark) (getD piece i 0)) (room : so .len < 150) where
+    module _ (m : ℕ) (me : m ≡ nextMark (hasSides (so .kind)) (so .mark) (getD piece i 0)) (room : so .len < 200) where
       pub pushed-joined : (byte : ℕ) → byte ≡ joined (getD (so .kept) (so .len - 1) 0) (getD piece i 0) → joins so (getD piece i 0) ≡ true → Pushed st piece (keptAt so (so .len - 1) byte (so .len) m) (i + 1)
       unfolding pushOne
       pushed-joined byte e j = rw (e, me) (rw (lt-ltb _ _ room, j) at pushed-one)
@@ -83,16 +85,12 @@ module _ (st : State) (piece : List ℕ) (so : State) (i : ℕ) (g : Pushed st p
       unfolding pushOne
       pushed-kept j = rw me (rw (lt-ltb _ _ room, j) at pushed-one)
 
--- only to a kept byte is joined, and only at the last mark
-joins-last : (mark n b : ℕ) → joinsTo mark n b ≡ true → mark ≡ 11
-joins-last mark n b j = go (eqb mark 11) refl j
-  where
-    go : (t : Bool) → eqb mark 11 ≡ t → and t (and (ltb 0 n) (isDigit b)) ≡ true → mark ≡ 11
-    go true e j = eqb-true mark 11 e
-    go false e j = absurd (let z : _≡_ {A = ℕ} 0 1 = cc in omega arith)
+-- only to a kept byte is joined, and only at some marks
+joins-last : (mark n b : ℕ) → joinsTo mark n b ≡ true → joinable mark ≡ true
+joins-last mark n b j = and-first (joinable mark) (and (ltb 0 n) (isDigit b)) j
 
 pub joins-some : (mark n b : ℕ) → joinsTo mark n b ≡ true → 0 < n
-joins-some mark n b j = go (eqb mark 11) (ltb 0 n) refl j
+joins-some mark n b j = go (joinable mark) (ltb 0 n) refl j
   where
     go : (t u : Bool) → ltb 0 n ≡ u → and t (and u (isDigit b)) ≡ true → 0 < n
     go true true e j = ltb-true 0 n e
@@ -155,10 +153,21 @@ same-digit x = go (eqb x 48) refl
     go true e = sym (eqb-true x 48 e)
     go false e = refl
 
-same-mark : (zeros : Bool) → nextMark zeros 11 48 ≡ 11
+same-mark : (sides : Bool) (m : ℕ) → joinable m ≡ true → nextMark sides m 48 ≡ m
 unfolding nextMark
-same-mark true = refl
-same-mark false = refl
+same-mark sides m j = go (eqb m 11) refl j
+  where
+    tenth : (s : Bool) → nextMark s 11 48 ≡ 11
+    tenth true = refl
+    tenth false = refl
+
+    zeros : (s : Bool) → nextMark s 27 48 ≡ 27
+    zeros true = refl
+    zeros false = refl
+
+    go : (t : Bool) → eqb m 11 ≡ t → or t (eqb m 27) ≡ true → nextMark sides m 48 ≡ m
+    go true e j = rw (eqb-true m 11 e) (tenth sides)
+    go false e j = rw (eqb-true m 27 j) (zeros sides)
 
 -- n digits are joined to the last byte
 abbrev pub runs : State → ℕ → ℕ → ℕ → State
@@ -171,32 +180,31 @@ runs so byte m n = record {
   accepted = so .accepted + n;
 }
 
-module _ (st : State) (piece : List ℕ) (so : State) (i byte : ℕ) (some : 0 < so .len) (room : so .len < 150) where
+module _ (st : State) (piece : List ℕ) (so : State) (i byte m : ℕ) (may : joinable m ≡ true) (some : 0 < so .len) (room : so .len < 200) where
   -- one zero more
-  run-more : (n : ℕ) → Pushed st piece (runs so byte 11 n) (i + n) → ZeroAt piece (i + n) → Pushed st piece (runs so byte 11 (suc n)) (i + suc n)
+  run-more : (n : ℕ) → Pushed st piece (runs so byte m n) (i + n) → ZeroAt piece (i + n) → Pushed st piece (runs so byte m (suc n)) (i + suc n)
   run-more n g z =
       let last = so .len - 1 in
       let old = getD (set (so .kept) last byte) last 0 in
-      let j : joins (runs so byte 11 n) (getD piece (i + n) 0) ≡ true = rw (z .zero, lt-ltb 0 (so .len) some) in
-      let next = pushed-joined st piece (runs so byte 11 n) (i + n) g (z .here) 11 (rw (z .zero) (sym (same-mark (dropsZeros (so .kind))))) room old (rw (z .zero) (sym (same-digit old))) j in
+      let j : joins (runs so byte m n) (getD piece (i + n) 0) ≡ true = rw (z .zero, lt-ltb 0 (so .len) some, may) in
+      let next = pushed-joined st piece (runs so byte m n) (i + n) g (z .here) m (rw (z .zero) (sym (same-mark (hasSides (so .kind)) m may))) room old (rw (z .zero) (sym (same-digit old))) j in
       let a : so .accepted + suc n - 1 ≡ so .accepted + n = omega arith in
       let b : so .accepted + suc n ≡ so .accepted + n + 1 = omega arith in
       let at : i + suc n ≡ i + n + 1 = omega arith in
       rw (a, b, at) (rw (set-getD (set (so .kept) last byte) last 0, set-set (so .places) last (so .accepted + n - 1) (so .accepted + n)) at next)
 
-module _ (st : State) (piece : List ℕ) (so : State) (i : ℕ) (g : Pushed st piece so i) (h : i < length piece) (room : so .len < 150) (m byte : ℕ) (me : m ≡ nextMark (dropsZeros (so .kind)) (so .mark) (getD piece i 0)) (be : byte ≡ joined (getD (so .kept) (so .len - 1) 0) (getD piece i 0)) (j : joins so (getD piece i 0) ≡ true) where
-  run-mark : 1 < zeroRun (drop i piece) → m ≡ 11
+module _ (st : State) (piece : List ℕ) (so : State) (i : ℕ) (g : Pushed st piece so i) (h : i < length piece) (room : so .len < 200) (m byte : ℕ) (me : m ≡ nextMark (hasSides (so .kind)) (so .mark) (getD piece i 0)) (be : byte ≡ joined (getD (so .kept) (so .len - 1) 0) (getD piece i 0)) (j : joins so (getD piece i 0) ≡ true) where
+  run-mark : 1 < zeroRun (drop i piece) → joinable m ≡ true
   run-mark z =
       let first : getD piece i 0 ≡ 48 = rw add-zero at (zero-at piece i 0 (omega arith) .zero) in
-      me ∙ rw (joins-last (so .mark) (so .len) (getD piece i 0) j, first) (same-mark (dropsZeros (so .kind)))
+      let may = joins-last (so .mark) (so .len) (getD piece i 0) j in
+      rw (me, first, same-mark (hasSides (so .kind)) (so .mark) may) may
 
   run-on : (n : ℕ) → n < max 1 (zeroRun (drop i piece)) → Pushed st piece (runs so byte m (suc n)) (i + suc n)
   run-on zero k =
       let a : so .accepted + 1 - 1 ≡ so .accepted = omega arith in
       rw a (pushed-joined st piece so i g h m me room byte be j)
-  run-on (suc n) k =
-      let e = run-mark (omega arith) in
-      rw e (run-more st piece so i byte (joins-some (so .mark) (so .len) (getD piece i 0) j) room (suc n) (rw e at (run-on n (omega arith))) (zero-at piece i (suc n) (omega arith)))
+  run-on (suc n) k = run-more st piece so i byte m (run-mark (omega arith)) (joins-some (so .mark) (so .len) (getD piece i 0) j) room (suc n) (run-on n (omega arith)) (zero-at piece i (suc n) (omega arith))
 
   pub pushed-run : (end : ℕ) → end ≡ i + max 1 (zeroRun (drop i piece)) → Pushed st piece (runs so byte m (end - i)) end
   pushed-run end e =

@@ -8,8 +8,8 @@ use native.Mathlib.Numerals.{add-one}
 use native.Mathlib.Omega.{arith}
 use lib.ListN.{length, getD, take, length-append, length-set, length-replicate}
 use lib.Seq.{take-suc, take-suc-set, length-take-le}
-use lib.Dec.{ltb, leb, eqb}
-use borrow.Author.Tests.{ltb-true, ltb-false, leb-true, leb-false, eqb-true}
+use lib.Dec.{ltb, leb}
+use borrow.Author.Tests.{ltb-true, ltb-false, leb-true, leb-false}
 use Rattle.parser.specs.Reading.{Found, no, got, stop, Reader, pick, and}
 use Rattle.parser.specs.Digits.{isDigit}
 use Rattle.kinds.specs.declared.answer.Kind.{Kind}
@@ -17,32 +17,51 @@ use Rattle.kinds.specs.declared.answer.Kind.the-variants as kind
 use Rattle.kinds.specs.declared.answer.Record.{Record}
 use Rattle.kinds.specs.Kinds.{ruleOf}
 use Rattle.kinds.proofs.Laws.{stable, bounded}
-use Rattle.shortening.proofs.Trims.{Proper, Trims}
-use Rattle.shortening.proofs.Rules.{trims}
+use Rattle.shortening.specs.Sides.{hasSides}
+use Rattle.shortening.proofs.Sides.{zeros≢fractions}
+use Rattle.shortening.proofs.EachKind.{Shortens, firstOf, shortens}
 use Rattle.arriving.specs.declared.State.{State}
-use Rattle.arriving.specs.Keeping.{dropsZeros, nextMark, joined, joins, counted, keptAt, pushOne, pushes, started, textOf, moved}
-use Rattle.arriving.proofs.Tidy.{marked, tidy, marked-snoc}
+use Rattle.arriving.specs.Keeping.{firstMark, nextMark, joinable, joined, joins, counted, keptAt, pushOne, pushes, started, textOf, moved}
+use Rattle.arriving.proofs.Tidy.{marked, tidy, marked-snoc, tidy-snoc, sideOf}
 use Rattle.arriving.proofs.Moves.{over, over-kept, over-beyond, over-longer, over-joined, shift, Rises, shift-rises, moved-alike, moved-twice, moved-same}
-use Rattle.arriving.proofs.Joined.{family, first, Joins, tidy-snoc, joins-law, tidy-normal}
+use Rattle.arriving.proofs.Joined.{FirstMark, Joins, joins-law, tidied}
 
 -- what can be left out of a record of the kind
-abbrev zerosOf : State → Bool
-zerosOf st = dropsZeros (st .kind)
+abbrev sidesOf : State → Bool
+sidesOf st = hasSides (st .kind)
 
-rule-trims : (k : Kind) → Trims (family (dropsZeros k)) 149 (ruleOf k)
-rule-trims kind.Date = trims kind.Date
-rule-trims (kind.Time c) = trims (kind.Time c)
-rule-trims kind.Offset = trims kind.Offset
-rule-trims (kind.Stamp c) = trims (kind.Stamp c)
-rule-trims kind.Duration = trims kind.Duration
+abbrev firstIn : State → ℕ
+firstIn st = firstMark (st .kind)
+
+first-side : (k : Kind) → sideOf (firstMark k) ≡ firstOf k
+first-side kind.Date = refl
+first-side (kind.Time c) = refl
+first-side kind.Offset = refl
+first-side (kind.Stamp c) = refl
+first-side kind.Duration = refl
+first-side (kind.Interval c) = refl
+
+rule-shortens : (k : Kind) → Shortens (hasSides k) (sideOf (firstMark k)) (ruleOf k)
+rule-shortens k = rw (first-side k) (shortens k)
+
+fraction-first : FirstMark 0
+fraction-first = record { apart = λ k few e. omega arith; alone = refl; fresh = λ h. absurd (zeros≢fractions (sym h)) }
+
+rule-first : (k : Kind) → FirstMark (firstMark k)
+rule-first kind.Date = fraction-first
+rule-first (kind.Time c) = fraction-first
+rule-first kind.Offset = fraction-first
+rule-first (kind.Stamp c) = fraction-first
+rule-first kind.Duration = record { apart = λ k few e. omega arith; alone = refl; fresh = λ h. refl }
+rule-first (kind.Interval c) = record { apart = λ k few e. omega arith; alone = refl; fresh = λ h. absurd (zeros≢fractions (sym h)) }
 
 pub record Stands (st : State) (s : List ℕ) : Type 0 where
   pub accepted : st .accepted ≡ length s
-  pub size : length (st .kept) ≡ 150
-  pub sizes : length (st .places) ≡ 150
-  pub few : st .len ≤ 150
-  pub tidies : tidy (zerosOf st) (first (zerosOf st)) (textOf st) ≡ true
-  pub mark : st .mark ≡ marked (zerosOf st) (first (zerosOf st)) (textOf st)
+  pub size : length (st .kept) ≡ 200
+  pub sizes : length (st .places) ≡ 200
+  pub few : st .len ≤ 200
+  pub tidies : tidy (sidesOf st) (firstIn st) (textOf st) ≡ true
+  pub mark : st .mark ≡ marked (sidesOf st) (firstIn st) (textOf st)
   pub rises : Rises (over st)
   pub reads : (x : List ℕ) → ruleOf (st .kind) .reads (s ++ x) 0 ≡ moved (over st) (ruleOf (st .kind) .reads (textOf st ++ x) 0)
 
@@ -56,8 +75,8 @@ pub start-stands : (k : Kind) → Stands (started k) []
 unfolding tidy marked
 start-stands k = record {
   accepted = refl;
-  size = length-replicate {A = ℕ} 150 0;
-  sizes = length-replicate {A = ℕ} 150 0;
+  size = length-replicate {A = ℕ} 200 0;
+  sizes = length-replicate {A = ℕ} 200 0;
   few = omega arith;
   tidies = refl;
   mark = refl;
@@ -71,21 +90,21 @@ start-stands k = record {
 reads-on : (st : State) (s : List ℕ) (b : ℕ) → Stands st s → (x : List ℕ) → ruleOf (st .kind) .reads ((s ++ b ∷ []) ++ x) 0 ≡ moved (over st) (ruleOf (st .kind) .reads (textOf st ++ b ∷ x) 0)
 reads-on st s b h x = rw (append-assoc s (b ∷ []) x) (h .reads (b ∷ x))
 
-module _ (st : State) (s : List ℕ) (b m : ℕ) (h : Stands st s) (room : st .len < 150) where
+module _ (st : State) (s : List ℕ) (b m : ℕ) (h : Stands st s) (room : st .len < 200) where
   abbrev longer : State
   longer = keptAt st (st .len) b (st .len + 1) m
 
   text-longer : textOf longer ≡ textOf st ++ b ∷ []
   text-longer = rw (add-one (st .len)) (take-suc-set (st .kept) (st .len) b (omega (arith, h .size)))
 
-  pub kept-stands : and (eqb (st .mark) 11) (isDigit b) ≡ false → m ≡ nextMark (zerosOf st) (st .mark) b → Stands longer (s ++ b ∷ [])
+  pub kept-stands : and (joinable (st .mark)) (isDigit b) ≡ false → m ≡ nextMark (sidesOf st) (st .mark) b → Stands longer (s ++ b ∷ [])
   kept-stands apart e = record {
     accepted = omega (arith, h .accepted, length-append s (b ∷ []));
     size = length-set (st .kept) (st .len) b ∙ h .size;
     sizes = length-set (st .places) (st .len) (st .accepted) ∙ h .sizes;
     few = omega arith;
-    tidies = rw text-longer (tidy-snoc (zerosOf st) (first (zerosOf st)) (textOf st) b (h .tidies) (rw (← h .mark) apart));
-    mark = rw text-longer (e ∙ rw (h .mark) (sym (marked-snoc (zerosOf st) (textOf st) b (first (zerosOf st)))));
+    tidies = rw text-longer (tidy-snoc (sidesOf st) (firstIn st) (textOf st) b (h .tidies) (rw (← h .mark) apart));
+    mark = rw text-longer (e ∙ rw (h .mark) (sym (marked-snoc (sidesOf st) (textOf st) b (firstIn st))));
     rises = λ n. omega (arith, h .rises n, over-longer st b m inside n, over-longer st b m inside (suc n));
     reads = λ x. reads-on st s b h x ∙ rw (text-longer, append-assoc (textOf st) (b ∷ []) x) (sym (moved-alike (over longer) (over st) (over-longer st b m inside) (ruleOf (st .kind) .reads (textOf st ++ b ∷ x) 0)));
   }
@@ -115,7 +134,7 @@ module _ (st : State) (s : List ℕ) (b m i : ℕ) (h : Stands st s) (last : st 
   over-same : (n : ℕ) → over st (shift (length (take i (st .kept))) n) ≡ over same n
   over-same n = rw (length-take-le i (st .kept) (omega (arith, h .size, h .few))) (sym (over-joined st i (joined c b) m last inside n))
 
-  joined-reads : Joins (zerosOf st) rule (take i (st .kept)) c b → (x : List ℕ) → rule .reads ((s ++ b ∷ []) ++ x) 0 ≡ moved (over same) (rule .reads (textOf same ++ x) 0)
+  joined-reads : Joins (sidesOf st) (firstIn st) rule (take i (st .kept)) c b → (x : List ℕ) → rule .reads ((s ++ b ∷ []) ++ x) 0 ≡ moved (over same) (rule .reads (textOf same ++ x) 0)
   joined-reads j x =
       let t = take i (st .kept) in
       let found = rule .reads ((t ++ joined c b ∷ []) ++ x) 0 in
@@ -126,37 +145,34 @@ module _ (st : State) (s : List ℕ) (b m i : ℕ) (h : Stands st s) (last : st 
       ∙ moved-alike (λ n. over st (shift (length t) n)) (over same) over-same found
       ∙ ap (λ (l : List ℕ). moved (over same) (rule .reads (l ++ x) 0)) (sym text-same)
 
-  pub joined-stands : st .mark ≡ 11 → isDigit b ≡ true → m ≡ nextMark (zerosOf st) 11 b → Stands same (s ++ b ∷ [])
+  pub joined-stands : joinable (st .mark) ≡ true → isDigit b ≡ true → m ≡ nextMark (sidesOf st) (st .mark) b → Stands same (s ++ b ∷ [])
   joined-stands full is e =
-      let j = joins-law (zerosOf st) rule 149 (rule-trims (st .kind)) (take i (st .kept)) c b (rw (← text-last) (h .tidies)) (rw (← text-last) (sym (h .mark) ∙ full)) is in
+      let mark : st .mark ≡ marked (sidesOf st) (firstIn st) (take i (st .kept) ++ c ∷ []) = rw (← text-last) (h .mark) in
+      let j = joins-law (sidesOf st) (firstIn st) (rule-first (st .kind)) rule (rule-shortens (st .kind)) (take i (st .kept)) c b (rw (← text-last) (h .tidies)) is (rw (← mark) full) in
       record {
         accepted = omega (arith, h .accepted, length-append s (b ∷ []));
         size = length-set (st .kept) i (joined c b) ∙ h .size;
         sizes = length-set (st .places) i (st .accepted) ∙ h .sizes;
         few = h .few;
         tidies = rw text-same (j .tidies);
-        mark = rw text-same (e ∙ sym (j .mark));
+        mark = rw text-same (e ∙ rw mark (sym (j .mark)));
         rises = λ n. let x = shift-rises i (over st) (h .rises) n in omega (arith, x, over-joined st i (joined c b) m last inside n, over-joined st i (joined c b) m last inside (suc n));
         reads = joined-reads j;
       }
 
--- ---- full is settled: a tidy text of 150 bytes is open nowhere, and what comes after it is only counted
+-- ---- full is settled: a tidy text of 200 bytes is open nowhere, and what comes after it is only counted
 
-proper : (z : Bool) (s : List ℕ) → Proper (family z) s 0
-proper true s = refl
-proper false s = tt
-
-pub full-closed : (st : State) (s : List ℕ) → Stands st s → 150 ≤ st .len → ruleOf (st .kind) .more (textOf st) 0 ≡ false
+pub full-closed : (st : State) (s : List ℕ) → Stands st s → 200 ≤ st .len → ruleOf (st .kind) .more (textOf st) 0 ≡ false
 full-closed st s h full = go (ruleOf (st .kind) .more (textOf st) 0) refl
   where
     go : (m : Bool) → ruleOf (st .kind) .more (textOf st) 0 ≡ m → m ≡ false
     go false e = refl
     go true e =
         let size = length-take-le (st .len) (st .kept) (omega (arith, h .size, h .few)) in
-        let near = rule-trims (st .kind) .within (textOf st) (tidy-normal (zerosOf st) (textOf st) (h .tidies)) 0 (proper (zerosOf st) (textOf st)) .opens e in
+        let near = rule-shortens (st .kind) .within (textOf st) (tidied (sidesOf st) (firstIn st) (rule-first (st .kind)) (textOf st) (h .tidies)) e in
         absurd (omega (arith, size, near))
 
-module _ (st : State) (s : List ℕ) (b : ℕ) (h : Stands st s) (full : 150 ≤ st .len) where
+module _ (st : State) (s : List ℕ) (b : ℕ) (h : Stands st s) (full : 200 ≤ st .len) where
   counted-kept : (n : ℕ) → n ≤ st .len → over (counted st) n ≡ over st n
   counted-kept zero le = over-kept (counted st) zero le ∙ sym (over-kept st zero le)
   counted-kept (suc n) le = over-kept (counted st) (suc n) le ∙ sym (over-kept st (suc n) le)
@@ -204,30 +220,26 @@ module _ (st : State) (s : List ℕ) (b : ℕ) (h : Stands st s) (full : 150 ≤
 -- ---- so each byte, and each piece
 
 -- where nothing is kept the mark is the first
-none-marked : (st : State) (s : List ℕ) → Stands st s → st .len ≡ 0 → eqb (st .mark) 11 ≡ false
+none-marked : (st : State) (s : List ℕ) → Stands st s → st .len ≡ 0 → joinable (st .mark) ≡ false
 unfolding marked
-none-marked st s h e = rw (h .mark, e) (go (zerosOf st))
-  where
-    go : (z : Bool) → eqb (first z) 11 ≡ false
-    go true = refl
-    go false = refl
+none-marked st s h e = rw (h .mark, e) (rule-first (st .kind) .alone)
 
 pub one-stands : (st : State) (s : List ℕ) (b : ℕ) → Stands st s → Stands (pushOne st b) (s ++ b ∷ [])
 unfolding pushOne
-one-stands st s b h = go (ltb (st .len) 150) refl
+one-stands st s b h = go (ltb (st .len) 200) refl
   where
     m : ℕ
-    m = nextMark (zerosOf st) (st .mark) b
+    m = nextMark (sidesOf st) (st .mark) b
 
-    last : (t u v : Bool) → eqb (st .mark) 11 ≡ t → ltb 0 (st .len) ≡ u → isDigit b ≡ v → st .len < 150 → Stands (pick (and t (and u v)) (keptAt st (st .len - 1) (joined (getD (st .kept) (st .len - 1) 0) b) (st .len) m) (keptAt st (st .len) b (st .len + 1) m)) (s ++ b ∷ [])
-    last true true true et eu ev lt = joined-stands st s b m (st .len - 1) h (omega (arith, ltb-true 0 (st .len) eu)) (eqb-true (st .mark) 11 et) ev (rw (eqb-true (st .mark) 11 et))
+    last : (t u v : Bool) → joinable (st .mark) ≡ t → ltb 0 (st .len) ≡ u → isDigit b ≡ v → st .len < 200 → Stands (pick (and t (and u v)) (keptAt st (st .len - 1) (joined (getD (st .kept) (st .len - 1) 0) b) (st .len) m) (keptAt st (st .len) b (st .len + 1) m)) (s ++ b ∷ [])
+    last true true true et eu ev lt = joined-stands st s b m (st .len - 1) h (omega (arith, ltb-true 0 (st .len) eu)) et ev refl
     last true true false et eu ev lt = kept-stands st s b m h lt (rw (et, ev)) refl
     last true false v et eu ev lt = kept-stands st s b m h lt (rw (none-marked st s h (omega (arith, ltb-false 0 (st .len) eu)))) refl
     last false u v et eu ev lt = kept-stands st s b m h lt (rw et) refl
 
-    go : (t : Bool) → ltb (st .len) 150 ≡ t → Stands (pick t (pick (joins st b) (keptAt st (st .len - 1) (joined (getD (st .kept) (st .len - 1) 0) b) (st .len) m) (keptAt st (st .len) b (st .len + 1) m)) (counted st)) (s ++ b ∷ [])
-    go true e = last (eqb (st .mark) 11) (ltb 0 (st .len)) (isDigit b) refl refl refl (ltb-true (st .len) 150 e)
-    go false e = counted-stands st s b h (ltb-false (st .len) 150 e)
+    go : (t : Bool) → ltb (st .len) 200 ≡ t → Stands (pick t (pick (joins st b) (keptAt st (st .len - 1) (joined (getD (st .kept) (st .len - 1) 0) b) (st .len) m) (keptAt st (st .len) b (st .len + 1) m)) (counted st)) (s ++ b ∷ [])
+    go true e = last (joinable (st .mark)) (ltb 0 (st .len)) (isDigit b) refl refl refl (ltb-true (st .len) 200 e)
+    go false e = counted-stands st s b h (ltb-false (st .len) 200 e)
 
 pub pushes-stands : (p : List ℕ) (st : State) (s : List ℕ) → Stands st s → Stands (pushes st p) (s ++ p)
 unfolding pushes

@@ -1,14 +1,15 @@
 -- The state of a record that arrives in pieces: what each function makes of any state.
 use Prim.Native.Nat.{ℕ, zero, suc, _+_, _-_}
 use mathlib.Core.List.{List, [], _∷_}
-use mathlib.Core.Bool.{Bool, true, false}
+use mathlib.Core.Bool.{Bool}
 use mathlib.Core.Path.{_≡_}
 use lib.ListN.{length, getD, take, set, replicate}
 use lib.Dec.{ltb, leb, eqb}
-use Rattle.parser.specs.Reading.{Found, no, got, stop, pick, or, and}
+use Rattle.parser.specs.Reading.{Found, no, got, stop, pick, or, and, within}
 use Rattle.parser.specs.Digits.{isDigit}
 use Rattle.parser.specs.Answer.{begun, ended, Judged}
 use Rattle.shortening.specs.Points.{isPoint}
+use Rattle.shortening.specs.Sides.{startsZeros, hasSides}
 use Rattle.kinds.specs.declared.answer.Kind.{Kind}
 use Rattle.kinds.specs.declared.answer.Kind.the-variants as kind
 use Rattle.kinds.specs.declared.answer.Record.{Record}
@@ -18,28 +19,41 @@ use Rattle.kinds.specs.Kinds.{ruleOf, bound, told}
 use Rattle.arriving.specs.declared.State.{State}
 use Rattle.arriving.specs.declared.Stepped.{Stepped}
 
--- what is dropped: the leading zeros of a duration's runs; elsewhere the fraction's digits past the tenth
-abbrev pub dropsZeros : Kind → Bool
-dropsZeros kind.Date = false
-dropsZeros (kind.Time c) = false
-dropsZeros kind.Offset = false
-dropsZeros (kind.Stamp c) = false
-dropsZeros kind.Duration = true
+-- What is dropped: the leading zeros of a duration's runs; elsewhere the fraction's digits past the tenth; of an interval, in each side what
+-- its first byte says. The mark tells which, and what the kept bytes end in. Where zeros are dropped: 17, no digit (or nothing at all); 27, a 0
+-- behind no digit; 16, any other digit. Where fraction digits are: 1 and as many as there are digits behind a comma or point, up to ten; 0,
+-- none of these. Where a side of an interval begins: 32.
+abbrev pub firstMark : Kind → ℕ
+firstMark kind.Date = 0
+firstMark (kind.Time c) = 0
+firstMark kind.Offset = 0
+firstMark (kind.Stamp c) = 0
+firstMark kind.Duration = 17
+firstMark (kind.Interval c) = 32
 
--- What the kept bytes end in. Where zeros are dropped: 1, no digit (or nothing at all); 11, a 0 behind no digit; 0, any other digit.
--- Where fraction digits are: 1 and as many as there are digits behind a comma or point, up to ten; 0, none of these.
+abbrev pub dropsZeros : ℕ → ℕ → Bool
+dropsZeros m b = pick (eqb m 32) (startsZeros b) (leb 16 m)
+
+abbrev pub zeroMark : ℕ → ℕ → ℕ
+zeroMark m b = pick (isDigit b) (pick (or (eqb m 17) (eqb m 27)) (pick (eqb b 48) 27 16) 16) 17
+
+abbrev pub pointMark : ℕ → ℕ → ℕ
+pointMark m b = pick (isDigit b) (pick (within 1 11 m) (pick (ltb m 11) (m + 1) 11) 0) (pick (isPoint b) 1 0)
+
 unfoldable pub nextMark : Bool → ℕ → ℕ → ℕ
-nextMark zeros m b =
-    pick (isDigit b) (pick (eqb m 0) 0 (pick zeros (pick (eqb b 48) 11 0) (pick (ltb m 11) (m + 1) 11)))
-    (pick (or zeros (isPoint b)) 1 0)
+nextMark sides m b = pick (and sides (eqb b 47)) 32 (pick (dropsZeros m b) (zeroMark m b) (pointMark m b))
+
+-- the marks of a digit that the next digit is joined to
+abbrev pub joinable : ℕ → Bool
+joinable m = or (eqb m 11) (eqb m 27)
 
 -- one digit for two, 0 where both are
 abbrev pub joined : ℕ → ℕ → ℕ
 joined last b = pick (eqb last 48) b last
 
--- The next byte: it is joined to the last kept one, or kept behind it, or, where 150 are kept, only counted.
+-- The next byte: it is joined to the last kept one, or kept behind it, or, where 200 are kept, only counted.
 abbrev pub joinsTo : ℕ → ℕ → ℕ → Bool
-joinsTo mark n b = and (eqb mark 11) (and (ltb 0 n) (isDigit b))
+joinsTo mark n b = and (joinable mark) (and (ltb 0 n) (isDigit b))
 
 abbrev pub joins : State → ℕ → Bool
 joins st b = joinsTo (st .mark) (st .len) b
@@ -59,8 +73,8 @@ keptAt st at byte n m = record {
 
 unfoldable pub pushOne : State → ℕ → State
 pushOne st b =
-    let m = nextMark (dropsZeros (st .kind)) (st .mark) b in
-    pick (ltb (st .len) 150)
+    let m = nextMark (hasSides (st .kind)) (st .mark) b in
+    pick (ltb (st .len) 200)
     (pick (joins st b) (keptAt st (st .len - 1) (joined (getD (st .kept) (st .len - 1) 0) b) (st .len) m) (keptAt st (st .len) b (st .len + 1) m))
     (counted st)
 
@@ -74,7 +88,7 @@ zeroRun [] = 0
 zeroRun (b ∷ p) = pick (eqb b 48) (suc (zeroRun p)) 0
 
 abbrev pub started : Kind → State
-started k = record { kind = k; kept = replicate 150 0; places = replicate 150 0; len = 0; mark = pick (dropsZeros k) 1 0; accepted = 0 }
+started k = record { kind = k; kept = replicate 200 0; places = replicate 200 0; len = 0; mark = firstMark k; accepted = 0 }
 
 -- "6, exactly when the accepted bytes would pass 4,294,967,295 in all; the state is unchanged"
 abbrev pub stepped : State → List ℕ → Stepped

@@ -1,33 +1,34 @@
 // A record that arrives in pieces.
 //
 // `start` gives a state, `step` gives it a piece, and `answer` and `end` say what the two readers say of all that was accepted, however it was
-// cut: that is `proofs/Laws.antt`. The state never holds the text, which has no limit: it keeps at most 150 bytes that are read the same, and
+// cut: that is `proofs/Laws.antt`. The state never holds the text, which has no limit: it keeps at most 200 bytes that are read the same, and
 // of each the place where it stood (specs/Keeping.antt).
 ghost use Prim.Native.Nat.{_+_, _<_, min, max};
 ghost use mathlib.Core.Path.{_≡_};
 ghost use lib.ListN.{length, drop};
-ghost use Rattle.parser.specs.Digits.{isDigit};
-ghost use Rattle.shortening.specs.Points.{isPoint};
-ghost use Rattle.arriving.specs.Keeping.{dropsZeros, joined, joinsTo, nextMark, zeroRun, started, stepped, Answers, Ends};
+ghost use Rattle.arriving.specs.Keeping.{joined, zeroRun, started, stepped, Answers, Ends};
+use crate::marks::first_mark;
+use crate::marks::has_sides;
+use crate::marks::joins;
+use crate::marks::next_mark;
 use kinds::answer::Answer;
 use kinds::answer::Kind;
 use kinds::answer::Read;
 use types::Refusal;
 
+mod marks;
+
 // So many bytes are kept, at most.
-pub const ROOM: usize = 150;
+pub const ROOM: usize = 200;
 
 // So many bytes are accepted, at most.
 pub const MOST: usize = 4294967295;
 
-// The mark of a digit that the next digit is joined to.
-const LAST: u8 = 11;
-
 // The kept bytes and the place of each in the input, how many they are, what the last of them tell (`nextMark`), and how many were accepted.
 pub struct State {
     pub kind: Kind,
-    pub kept: [u8; 150],
-    pub places: [u32; 150],
+    pub kept: [u8; 200],
+    pub places: [u32; 200],
     pub len: usize,
     pub mark: u8,
     pub accepted: u32,
@@ -39,63 +40,11 @@ pub struct Stepped {
     pub number: u32,
 }
 
-fn drops_zeros(kind: Kind) -> bool
-    ensures { λ r. ⌜ r ≡ dropsZeros kind ⌝ }
-{
-    match kind {
-        Kind::Date => false,
-        Kind::Time(_) => false,
-        Kind::Offset => false,
-        Kind::Stamp(_) => false,
-        Kind::Duration => true,
-    }
-}
-
-fn is_digit(b: u8) -> bool
-    ensures { λ r. ⌜ r ≡ isDigit b ⌝ }
-{
-    48 <= b && b <= 57
-}
-
-fn is_point(b: u8) -> bool
-    ensures { λ r. ⌜ r ≡ isPoint b ⌝ }
-{
-    b == 44 || b == 46
-}
-
 // One digit for two, 0 where both are.
 fn join(last: u8, b: u8) -> u8
     ensures { λ r. ⌜ r ≡ joined last b ⌝ }
 {
     if last == 48 { b } else { last }
-}
-
-fn next_mark(zeros: bool, mark: u8, b: u8) -> u8
-    ensures { λ r. ⌜ r ≡ nextMark zeros mark b ⌝ }
-{
-    if is_digit(b) {
-        if mark == 0 {
-            return 0;
-        }
-        if zeros {
-            return if b == 48 { LAST } else { 0 };
-        }
-        return if mark < LAST { mark + 1 } else { LAST };
-    }
-    if zeros {
-        return 1;
-    }
-    if is_point(b) { 1 } else { 0 }
-}
-
-// The byte is joined to the last kept one.
-fn joins(mark: u8, len: usize, b: u8) -> bool
-    ensures { λ r. ⌜ r ≡ joinsTo mark len b ⌝ }
-{
-    if mark == LAST {
-        return 0 < len && is_digit(b);
-    }
-    false
 }
 
 // The place behind the zeros that stand from `i` on.
@@ -128,7 +77,7 @@ fn run_end(piece: &[u8], i: usize) -> usize
 pub fn start(kind: Kind) -> State
     ensures { λ r. ⌜ r ≡ started kind ⌝ }
 {
-    let mark = if drops_zeros(kind) { 1 } else { 0 };
+    let mark = first_mark(kind);
     State {
         kind,
         kept: [0u8; ROOM],
@@ -147,7 +96,7 @@ pub fn step(mut state: State, piece: &[u8]) -> Stepped
     if MOST - (accepted as usize) < piece.len() {
         return Stepped { state, number: 6 };
     }
-    let zeros = drops_zeros(state.kind);
+    let sides = has_sides(state.kind);
     let mut len = state.len;
     let mut mark = state.mark;
     let mut i = 0;
@@ -156,7 +105,7 @@ pub fn step(mut state: State, piece: &[u8]) -> Stepped
             break;
         }
         let b = piece[i];
-        let next = next_mark(zeros, mark, b);
+        let next = next_mark(sides, mark, b);
         if joins(mark, len, b) {
             let last = len - 1;
             let old = state.kept[last];
@@ -182,7 +131,7 @@ pub fn step(mut state: State, piece: &[u8]) -> Stepped
 
 // No more than there is room for.
 fn held(len: usize) -> usize
-    ensures { λ r. ⌜ r ≡ min len 150 ⌝ }
+    ensures { λ r. ⌜ r ≡ min len 200 ⌝ }
 {
     if len < ROOM { len } else { ROOM }
 }

@@ -12,15 +12,13 @@ use native.Mathlib.Omega.{arith}
 use lib.ListN.{length, getD, take, drop, take-append-drop, length-append, List·getD-append}
 use lib.Seq.{getD-drop, length-take-le, split-at}
 use lib.Dec.{ltb, eqb}
-use borrow.Author.Tests.{ltb-true, eqb-true}
+use borrow.Author.Tests.{eqb-true}
 use Rattle.types.specs.declared.Choices.{Choices}
 use Rattle.types.specs.declared.DateTime.{DateTime}
 use Rattle.types.specs.declared.Date.{Date}
 use Rattle.types.specs.declared.IntervalRange.the-variants as range
 use Rattle.types.specs.declared.Repetitions.{Repetitions}
-use Rattle.parser.specs.Reading.{Found, no, got, stop, Reader, lit, seq, then, opt, lack, alt, map, mapFound, pick, or, and}
-use Rattle.parser.specs.Digits.{isDigit}
-use Rattle.parser.proofs.Fields.{true≢false}
+use Rattle.parser.specs.Reading.{no, got, Reader, lit, seq, then, opt, lack, map, mapFound, pick, or, and}
 use Rattle.parser.proofs.Places.{no≢got, got-place, from-no, from-stop, made}
 use Rattle.parser.proofs.Lawful.{Outside, open-apart}
 use Rattle.date.specs.Rules.{date}
@@ -32,9 +30,8 @@ use Rattle.datetime.specs.Rules.{dateTime}
 use Rattle.interval.specs.Rules.{repeatRun, timesOf, orOnce, repeated, repetitions, tried, stamp, intervalOf}
 use Rattle.interval.specs.Followed.{followed}
 use Rattle.interval.specs.Once.{afterStart, stampFirst, orOpen, afterDuration, durationFirst, rangeOnce, intervalOnce}
-use Rattle.shortening.specs.Points.{isPoint}
 use Rattle.shortening.specs.Sides.{startsZeros}
-use Rattle.shortening.proofs.Cuts.{Cut, whole, kept, Place, before, behind, Carried, Simulates, SameAt, simulates-earlier, seq-same, alt-same, map-same, seq-simulates, opt-simulates, map-simulates}
+use Rattle.shortening.proofs.Cuts.{Cut, kept, Place, before, behind, Simulates, SameAt, simulates-earlier, seq-same, alt-same, map-same, seq-simulates, opt-simulates, map-simulates}
 use Rattle.shortening.proofs.Local.{local-behind}
 use Rattle.shortening.proofs.Spans.{Stuck, seq-stuck, tried-stuck}
 use Rattle.shortening.proofs.Families.{Family, zeros, fractions, ZeroCut, Own, own, mark, apart}

@@ -10,3 +10,4 @@ pub mod Rules
 pub mod Sides
 pub mod Intervals
 pub mod Short
+pub mod EachKind

@@ -1,8 +1,7 @@
--- What can be left out of a record of each kind, and how far its rule comes then: by the laws of the combinators, a kind in a few lines.
+-- What can be left out of a record, and how far its rule comes then: by the laws of the combinators, a rule in a few lines.
 use Prim.Native.Nat.{ℕ}
 use mathlib.Core.Bool.{Bool, true, false}
 use mathlib.Core.Path.{refl}
-use native.Mathlib.Omega.{arith}
 use Rattle.types.specs.declared.Choices.{Choices}
 use Rattle.types.specs.declared.Edition.{Edition}
 use Rattle.types.specs.declared.Edition.the-variants.{E2004, E2019}
@@ -20,11 +19,8 @@ use Rattle.datetime.specs.Rules.{dateTime, afterDate, timeOf}
 use Rattle.duration.specs.Rules.{duration, partsRule, durationTime, durationBaseTime}
 use Rattle.interval.specs.Followed.{zeroMinute, zeroBehind, zeroTail, tailOf, followedTime, followed}
 use Rattle.interval.specs.Followed as behind
-use Rattle.kinds.specs.declared.answer.Kind.{Kind}
-use Rattle.kinds.specs.declared.answer.Kind.the-variants as kind
-use Rattle.kinds.specs.Kinds.{ruleOf}
-use Rattle.shortening.proofs.Families.{Family, zeros, fractions}
-use Rattle.shortening.proofs.Trims.{Trims, lit-trims, seq-trims, opt-trims, alt-trims, verify-trims, must-trims, map-trims, give-trims, preceded-trims, weaken-trims}
+use Rattle.shortening.proofs.Families.{zeros, fractions}
+use Rattle.shortening.proofs.Trims.{Trims, lit-trims, seq-trims, opt-trims, alt-trims, verify-trims, must-trims, map-trims, give-trims, preceded-trims}
 use Rattle.shortening.proofs.Zeros.{part-trims}
 use Rattle.shortening.proofs.Fields.{field-trims}
 use Rattle.shortening.proofs.Fractions.{zero-joined, Joined, point-trims}
@@ -129,19 +125,3 @@ tail-trims r true h = seq-trims (opt-trims (zero-behind-trims r)) (λ _. map-tri
 pub followed-trims : (c : Choices) → Trims fractions 37 (followed c)
 unfolding followed followedTime
 followed-trims c = seq-trims date-trims (λ _. seq-trims (lit-trims fractions 84 refl) (λ _. map-trims _ (seq-trims (hour-trims (c .edition)) (λ h. tail-trims (c .reading) (endsDay (c .edition) h) h))))
-
--- ---- once over the kind
-
-abbrev pub familyOf : Kind → Family
-familyOf kind.Date = fractions
-familyOf (kind.Time c) = fractions
-familyOf kind.Offset = fractions
-familyOf (kind.Stamp c) = fractions
-familyOf kind.Duration = zeros
-
-pub trims : (k : Kind) → Trims (familyOf k) 149 (ruleOf k)
-trims kind.Date = weaken-trims 149 (omega arith) (map-trims _ date-trims)
-trims (kind.Time c) = weaken-trims 149 (omega arith) (map-trims _ (time-trims c))
-trims kind.Offset = weaken-trims 149 (omega arith) (map-trims _ offset-trims)
-trims (kind.Stamp c) = weaken-trims 149 (omega arith) (map-trims _ (datetime-trims c))
-trims kind.Duration = map-trims _ duration-trims

@@ -1,9 +1,9 @@
 -- An open interval of which nothing more can be left out is short: 12 bytes of repetitions, 37 of a date-time, `/`, 149 of a duration.
-use Prim.Native.Nat.{ℕ, zero, suc, _+_, _≤_}
+use Prim.Native.Nat.{ℕ, zero, suc, _+_}
 use mathlib.Core.List.{List}
 use mathlib.Core.Bool.{Bool, true, false}
 use mathlib.Core.Option.{none}
-use mathlib.Core.Path.{_≡_, refl, sym}
+use mathlib.Core.Path.{_≡_, refl}
 use native.Mathlib.Omega.{arith}
 use lib.ListN.{length, getD}
 use lib.Dec.{ltb, eqb}
@@ -11,7 +11,7 @@ use borrow.Author.Tests.{ltb-false, eqb-true, not-true}
 use Rattle.types.specs.declared.Choices.{Choices}
 use Rattle.types.specs.declared.DateTime.{DateTime}
 use Rattle.types.specs.declared.IntervalRange.the-variants as range
-use Rattle.parser.specs.Reading.{Found, got, Reader, lit, seq, opt, alt, map, pick, and}
+use Rattle.parser.specs.Reading.{Found, Reader, lit, seq, opt, pick, and}
 use Rattle.parser.specs.Digits.{lowest}
 use Rattle.parser.proofs.Stable.{or-false}
 use Rattle.parser.proofs.Places.{from-no, got-place, picked}
@@ -22,7 +22,7 @@ use Rattle.interval.specs.Followed.{followed}
 use Rattle.interval.specs.Once.{afterStart, stampFirst, orOpen, afterDuration, durationFirst, rangeOnce, intervalOnce}
 use Rattle.shortening.specs.Sides.{startsZeros}
 use Rattle.shortening.proofs.Spans.{Spans, SpansAt, seq-spans, opt-spans, alt-spans, map-spans, Stuck, stuck-spans, seq-stuck, verify-stuck, map-stuck, lit-stuck}
-use Rattle.shortening.proofs.Families.{Family, zeros, fractions, fresh, Reaches, reaches-none, Normal, Proper}
+use Rattle.shortening.proofs.Families.{zeros, fractions, fresh, Reaches, reaches-none, Normal, Proper}
 use Rattle.shortening.proofs.Trims.{Trims, lit-spans, tried-trims}
 use Rattle.shortening.proofs.Zeros.{run-spans}
 use Rattle.shortening.proofs.Rules.{duration-trims, datetime-trims, followed-trims}

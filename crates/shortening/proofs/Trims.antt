@@ -1,5 +1,6 @@
--- The two laws of shortened texts travel together: a text is read as the shorter one is, and one that is short already is open only near
--- its beginning. One law for each combinator and for single bytes; the other leaves are in Zeros and Fractions.
+-- The laws of shortened texts travel together: a part looks at nothing before its place, reads a text as the shorter one, also where what
+-- stands behind a `/` is another, and is open only near its place where nothing more can be left out, up to the next `/`. One law for each
+-- combinator and for single bytes; the other leaves are in Zeros, Fields and Fractions.
 use Prim.Native.Nat.{ℕ, _+_, _≤_}
 use mathlib.Core.List.{List, _++_}
 use mathlib.Core.Bool.{Bool, true, false}
@@ -112,7 +113,3 @@ module _ {f : Family} where
 
   pub preceded-trims : {A : Type 0} {w : ℕ} {p : Reader A} (c : ℕ) → apart f c ≡ false → Trims f w p → Trims f (1 + w) (precededBy c p)
   preceded-trims c other hp = seq-trims (opt-trims (lit-trims f c other)) (λ _. hp)
-
-  -- more room is enough
-  pub weaken-trims : {A : Type 0} {v : ℕ} (w : ℕ) {p : Reader A} → v ≤ w → Trims f v p → Trims f w p
-  weaken-trims {A} {v} w {p} le hp = record { local = hp .local; simulates = hp .simulates; within = λ s from h at g. let x = hp .within s from h at g in record { opens = λ o. omega (arith, x .opens o); ends = λ a n e. let y = x .ends a n e in (omega (arith, y .0), y .1) } }

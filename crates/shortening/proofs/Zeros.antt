@@ -9,7 +9,7 @@ use lib.ListN.{length, getD, drop, length-append, length-drop}
 use lib.Seq.{drop-append-le, drop-append-seam, getD-drop}
 use lib.Dec.{ltb, leb}
 use borrow.Author.Tests.{ltb-true, ltb-false, leb-true, leb-false, not-true}
-use Rattle.parser.specs.Reading.{got, stop, Reader, lit, seq, map, pick, and}
+use Rattle.parser.specs.Reading.{got, stop, Reader, lit, map, pick, and}
 use Rattle.parser.specs.Digits.{isDigit, digits, number, numberFrom, lowest, runAt, atTheEnd, atMost, limit, runAs, run}
 use Rattle.parser.proofs.Fields.{true≢false, and-first}
 use Rattle.parser.proofs.Runs.{digits-inside, number-grows}

@@ -14,20 +14,20 @@ use Rattle.arriving.proofs.answer.Tie as tie
 
 array-share-prefix-kept : tie.Need-array-share-prefix-kept
 array-share-prefix-kept c =
-    let all : length (c .before .before .args .state .kept) ≡ 150 = search needs in
+    let all : length (c .before .before .args .state .kept) ≡ 200 = search needs in
     omega arith
 
 slice-aggregate-read : tie.Need-slice-aggregate-read
 slice-aggregate-read c =
     let kept = c .before .before .before .args .state .kept in
-    let all : length kept ≡ 150 = search needs in
+    let all : length kept ≡ 200 = search needs in
     sym (length-take-le (c .before .held .result) kept (omega arith))
 
-kept-size : (c : tie.After-held) → length (c .before .before .args .state .kept) ≡ 150
+kept-size : (c : tie.After-held) → length (c .before .before .args .state .kept) ≡ 200
 kept-size c = search needs
 
 -- the count of a record of the kept bytes
-few : (c : tie.After-short) → c .short .given .0 .1 .0 ≤ 150
+few : (c : tie.After-short) → c .short .given .0 .1 .0 ≤ 200
 few c =
     let read = c .before .before in
     let st = read .before .before .before .before .args .state in

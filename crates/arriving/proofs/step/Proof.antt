@@ -8,17 +8,17 @@ use lib.ListN.{length, getD}
 use borrow.Author.Needs.{needs}
 use borrow.Author.Tests.{le-leb, lt-leb}
 use Rattle.arriving.specs.declared.State.{State}
-use Rattle.arriving.specs.Keeping.{dropsZeros}
+use Rattle.shortening.specs.Sides.{hasSides}
 use Rattle.arriving.proofs.Pushing.{Pushed, pushed-none, pushed-all, pushed-full, pushed-kept, pushed-run, joins-some, run-within}
 use Rattle.arriving.proofs.step.Statement.{statement}
 use Rattle.arriving.proofs.step.Tie as tie
 
 abbrev Inv-loop : tie.InvT-loop
-Inv-loop piece state₀ accepted₀ zeros len₀ mark₀ i₀ state accepted len mark i =
+Inv-loop piece state₀ accepted₀ sides len₀ mark₀ i₀ state accepted len mark i =
     Pushed state₀ piece (record { kind = state .kind; kept = state .kept; places = state .places; len = len; mark = mark; accepted = accepted }) i
 
 abbrev μ-loop : tie.MeasureT-loop
-μ-loop piece state₀ accepted₀ zeros len₀ mark₀ i₀ state accepted len mark i = length piece - i
+μ-loop piece state₀ accepted₀ sides len₀ mark₀ i₀ state accepted len mark i = length piece - i
 
 sub-last : tie.Need-sub-last Inv-loop μ-loop
 sub-last c =
@@ -35,8 +35,8 @@ loop-again : tie.Need-loop-again Inv-loop μ-loop
 loop-again c =
     let turn = c .before .before .before .before .before .before .before in
     let at = turn .before .before in
-    let zeros = at .before .drops-zeros .ensures ∙ ap dropsZeros (sym (at .loop .inv .kind)) in
-    let mark = rw zeros at (c .before .before .before .before .before .next-mark .ensures) in
+    let sides = at .before .has-sides .ensures ∙ ap hasSides (sym (at .loop .inv .kind)) in
+    let mark = rw sides at (c .before .before .before .before .before .next-mark .ensures) in
     let joins = sym (c .before .before .before .before .joins .ensures) ∙ c .before .before .before .if3 .taken in
     pushed-run _ _ _ _ (at .loop .inv) (turn .before .loop-test .taken) (turn .if2 .left) _ _ mark (c .join .ensures) joins _ (c .before .run-end .ensures)
 
@@ -44,8 +44,8 @@ loop-again-2 : tie.Need-loop-again-2 Inv-loop μ-loop
 loop-again-2 c =
     let turn = c .before .before .before .before in
     let at = turn .before .before in
-    let zeros = at .before .drops-zeros .ensures ∙ ap dropsZeros (sym (at .loop .inv .kind)) in
-    let mark = rw zeros at (c .before .before .next-mark .ensures) in
+    let sides = at .before .has-sides .ensures ∙ ap hasSides (sym (at .loop .inv .kind)) in
+    let mark = rw sides at (c .before .before .next-mark .ensures) in
     pushed-kept _ _ _ _ (at .loop .inv) (turn .before .loop-test .taken) _ mark (turn .if2 .left) (sym (c .before .joins .ensures) ∙ c .if3 .left)
 
 refuses : tie.Need-returns Inv-loop μ-loop
