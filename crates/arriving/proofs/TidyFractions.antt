@@ -14,10 +14,9 @@ use borrow.Author.Tests.{ltb-true, ltb-false, leb-true, lt-ltb, le-leb, lt-leb, 
 use Rattle.parser.specs.Reading.{pick, or, and, within}
 use Rattle.parser.specs.Digits.{isDigit, digits}
 use Rattle.parser.proofs.Fields.{true≢false, and-first, and-second}
-use Rattle.parser.proofs.Lawful.{told-apart}
 use Rattle.shortening.specs.Points.{isPoint}
 use Rattle.shortening.specs.Sides.{startsZeros}
-use Rattle.shortening.proofs.Families.{zeros, fractions, allDigits, digit-no-slash, Clean}
+use Rattle.shortening.proofs.Families.{zeros, fractions, by-point, allDigits, digit-no-slash, Clean}
 use Rattle.shortening.proofs.Fields.{point-no-digit}
 use Rattle.shortening.proofs.Sides.{familyIn, zeros≢fractions}
 use Rattle.arriving.specs.Keeping.{dropsZeros, nextMark, joinable}
@@ -116,10 +115,10 @@ point-last sides m t c h e = go (last-point sides (marked sides m t) c 10 (omega
 
 -- behind a comma or point the mark is 1
 point-first : (sides : Bool) (m b : ℕ) → isPoint b ≡ true → familyIn (sideOf m) ≡ fractions → nextMark sides m b ≡ 1
-point-first sides m b p side = next-mark sides m b ∙ rw (point-no-digit b p, p, apart-slash sides b (told-apart isPoint b 47 (λ e. true≢false (sym p ∙ e)))) (go (eqb m 32) side)
+point-first sides m b p side = next-mark sides m b ∙ rw (point-no-digit b p, p, apart-slash sides b (by-point (λ c. eqb c 47 ≡ false) refl refl b p)) (go (eqb m 32) side)
   where
     no-start : startsZeros b ≡ false
-    no-start = rw (told-apart isPoint b 80 (λ e. true≢false (sym p ∙ e)), told-apart isPoint b 82 (λ e. true≢false (sym p ∙ e)))
+    no-start = by-point (λ c. startsZeros c ≡ false) refl refl b p
 
     later : (u : Bool) → pick u zeros fractions ≡ fractions → _≡_ {A = ℕ} (pick u 17 1) 1
     later true h = absurd (zeros≢fractions h)

@@ -8,7 +8,7 @@ use native.Mathlib.Omega.{arith}
 use lib.ListN.{length, getD, drop}
 use lib.Seq.{getD-drop}
 use lib.Dec.{ltb, leb, eqb}
-use borrow.Author.Tests.{ltb-true, ltb-false, leb-true, ne-eqb}
+use borrow.Author.Tests.{ltb-true, ltb-false, leb-true, eqb-true, ne-eqb}
 use Rattle.parser.specs.Reading.{or, and, pick}
 use Rattle.parser.specs.Digits.{isDigit, digits, runAt}
 use Rattle.parser.proofs.Fields.{and-first}
@@ -88,6 +88,26 @@ mark fractions b = isPoint b
 
 abbrev pub apart : Family → ℕ → Bool
 apart f b = or (eqb b 47) (mark f b)
+
+-- a byte that does not stand there in either family
+pub unmarked : (c : ℕ) → isDigit c ≡ false → isPoint c ≡ false → (f : Family) → mark f c ≡ false
+unmarked c d p zeros = d
+unmarked c d p fractions = p
+
+-- what holds of each such byte
+pub by-point : (P : ℕ → Type 0) → P 44 → P 46 → (b : ℕ) → isPoint b ≡ true → P b
+by-point P comma point b h = go (eqb b 44) refl h
+  where
+    go : (t : Bool) → eqb b 44 ≡ t → or t (eqb b 46) ≡ true → P b
+    go true e h = rw (eqb-true b 44 e) comma
+    go false e h = rw (eqb-true b 46 h) point
+
+pub by-apart : (P : ℕ → Type 0) → P 47 → P 44 → P 46 → (b : ℕ) → apart fractions b ≡ true → P b
+by-apart P slash comma point b h = go (eqb b 47) refl h
+  where
+    go : (t : Bool) → eqb b 47 ≡ t → or t (isPoint b) ≡ true → P b
+    go true e h = rw (eqb-true b 47 e) slash
+    go false e h = by-point P comma point b h
 
 -- ---- from a place on, up to the next `/`
 

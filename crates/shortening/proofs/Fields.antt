@@ -5,31 +5,23 @@ use mathlib.Core.Bool.{Bool, true, false}
 use mathlib.Core.Path.{_≡_, refl, sym}
 use native.Mathlib.Omega.{arith}
 use lib.ListN.{length, getD}
-use lib.Dec.{ltb, leb, eqb}
-use borrow.Author.Tests.{ltb-false, eqb-true}
-use Rattle.parser.specs.Reading.{Found, no, got, pick, or, and}
+use lib.Dec.{ltb, leb}
+use borrow.Author.Tests.{ltb-false}
+use Rattle.parser.specs.Reading.{Found, no, got, pick, and}
 use Rattle.parser.specs.Digits.{isDigit, digitsFrom, digitsMore, field, reach}
 use Rattle.parser.proofs.Fields.{true≢false}
 use Rattle.parser.proofs.Places.{no≢got, got-place, field-bounded, field-foreign}
 use Rattle.shortening.specs.Points.{isPoint}
 use Rattle.shortening.proofs.Local.{field-local}
 use Rattle.shortening.proofs.Spans.{Spans}
-use Rattle.shortening.proofs.Families.{fractions, apart, Reaches, reaches-one, digit-no-slash}
+use Rattle.shortening.proofs.Families.{fractions, apart, by-point, by-apart, Reaches, reaches-one, digit-no-slash}
 use Rattle.shortening.proofs.Trims.{Trims, foreign-simulates}
 
 pub point-no-digit : (b : ℕ) → isPoint b ≡ true → isDigit b ≡ false
-point-no-digit b h = go (eqb b 44) refl h
-  where
-    go : (t : Bool) → eqb b 44 ≡ t → or t (eqb b 46) ≡ true → isDigit b ≡ false
-    go true e h = rw (eqb-true b 44 e)
-    go false e h = rw (eqb-true b 46 h)
+point-no-digit = by-point (λ b. isDigit b ≡ false) refl refl
 
 pub apart-no-digit : (b : ℕ) → apart fractions b ≡ true → isDigit b ≡ false
-apart-no-digit b h = go (eqb b 47) refl h
-  where
-    go : (t : Bool) → eqb b 47 ≡ t → or t (isPoint b) ≡ true → isDigit b ≡ false
-    go true e h = rw (eqb-true b 47 e)
-    go false e h = point-no-digit b h
+apart-no-digit = by-apart (λ b. isDigit b ≡ false) refl refl refl
 
 -- a digit, and what stands behind it
 digit-spans : (s : List ℕ) (from k at : ℕ) (m : Bool) (f : Found ℕ) (t u r : Bool) → ltb at (length s) ≡ t → isDigit (getD s at 0) ≡ u → Reaches s from at → (Reaches s from (at + 1) → Spans (Reaches s from) s k (at + 1) m f) → Spans (Reaches s from) s (suc k) at (pick t (pick (and t u) m false) r) (pick (and t u) f no)

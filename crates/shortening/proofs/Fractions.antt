@@ -16,13 +16,12 @@ use Rattle.parser.specs.Digits.{isDigit, digits, number, numberFrom, runAt, ofR
 use Rattle.parser.specs.Fields.{either}
 use Rattle.parser.proofs.Fields.{true≢false, and-first, and-second}
 use Rattle.parser.proofs.Places.{no≢got, stop≢got, got-place, Bounded, seq-bounded, alt-bounded, lit-bounded, run-bounded, run-foreign}
-use Rattle.parser.proofs.Lawful.{told-apart}
 use Rattle.parser.proofs.RunLeaves.{of-run}
 use Rattle.shortening.specs.Points.{isPoint}
 use Rattle.shortening.proofs.Cuts.{Cut, Place, behind, Carried, SameAt, Simulates, seq-simulates, alt-simulates}
 use Rattle.shortening.proofs.Local.{Local, lit-local, run-local, alt-local, seq-local}
 use Rattle.shortening.proofs.Spans.{SpansAt}
-use Rattle.shortening.proofs.Families.{zeros, fractions, FractionCut, own, behindSlash, CutOf, cut, apart, allDigits, Reaches, reaches-one, reaches-run, Normal}
+use Rattle.shortening.proofs.Families.{zeros, fractions, FractionCut, own, behindSlash, CutOf, cut, apart, by-point, allDigits, Reaches, reaches-one, reaches-run, Normal}
 use Rattle.shortening.proofs.Trims.{Trims, same-before, simulates-by, foreign-simulates, lit-trims}
 use Rattle.shortening.proofs.Fields.{point-no-digit, apart-no-digit}
 
@@ -170,7 +169,7 @@ module _ (may : ℕ → Bool) (r : ℕ) (joined : Joined may) where
       opened false e o = omega (arith, ltb-false at (length s) e)
 
       ended : (a : Fraction) (n : ℕ) (t : Bool) → isPoint (getD s at 0) ≡ t → pick t (leaf .reads s (at + 1)) no ≡ got a n → (n ≤ at + 11) × Reaches s from n
-      ended a n true e eg = let here = leaf-ends s (at + 1) a n eg in (omega (arith, few at g e), rw here (reaches-run (reaches-one g (told-apart isPoint (getD s at 0) 47 (λ same. true≢false (sym e ∙ same))))))
+      ended a n true e eg = let here = leaf-ends s (at + 1) a n eg in (omega (arith, few at g e), rw here (reaches-run (reaches-one g (by-point (λ b. eqb b 47 ≡ false) refl refl (getD s at 0) e))))
       ended a n false e eg = absurd (no≢got eg)
 
   -- ---- the same is told

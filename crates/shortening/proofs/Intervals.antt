@@ -12,13 +12,12 @@ use native.Mathlib.Omega.{arith}
 use lib.ListN.{length, getD, take, drop, take-append-drop, length-append, List·getD-append}
 use lib.Seq.{getD-drop, length-take-le, split-at}
 use lib.Dec.{ltb, eqb}
-use borrow.Author.Tests.{eqb-true}
 use Rattle.types.specs.declared.Choices.{Choices}
 use Rattle.types.specs.declared.DateTime.{DateTime}
 use Rattle.types.specs.declared.Date.{Date}
 use Rattle.types.specs.declared.IntervalRange.the-variants as range
 use Rattle.types.specs.declared.Repetitions.{Repetitions}
-use Rattle.parser.specs.Reading.{no, got, Reader, lit, seq, then, opt, lack, map, mapFound, pick, or, and}
+use Rattle.parser.specs.Reading.{no, got, Reader, lit, seq, then, opt, lack, map, mapFound, pick, and}
 use Rattle.parser.proofs.Places.{no≢got, got-place, from-no, from-stop, made}
 use Rattle.parser.proofs.Lawful.{Outside, open-apart}
 use Rattle.date.specs.Rules.{date}
@@ -34,11 +33,11 @@ use Rattle.shortening.specs.Sides.{startsZeros}
 use Rattle.shortening.proofs.Cuts.{Cut, kept, Place, before, behind, Simulates, SameAt, simulates-earlier, seq-same, alt-same, map-same, seq-simulates, opt-simulates, map-simulates}
 use Rattle.shortening.proofs.Local.{local-behind}
 use Rattle.shortening.proofs.Spans.{Stuck, seq-stuck, tried-stuck}
-use Rattle.shortening.proofs.Families.{Family, zeros, fractions, ZeroCut, Own, own, mark, apart}
+use Rattle.shortening.proofs.Families.{Family, zeros, fractions, ZeroCut, Own, own, unmarked, by-apart}
 use Rattle.shortening.proofs.Trims.{Trims, foreign-simulates, lit-simulates, tried-trims}
 use Rattle.shortening.proofs.Zeros.{run-simulates}
 use Rattle.shortening.proofs.Rules.{duration-trims, datetime-trims, followed-trims}
-use Rattle.shortening.proofs.Sides.{familyIn, sideFrom, begins, inside, Slash, ZeroStart, zero-side-from}
+use Rattle.shortening.proofs.Sides.{by-start, familyIn, sideFrom, begins, inside, Slash, ZeroStart, zero-side-from}
 
 -- ---- at `P` and at `R` no date begins
 
@@ -47,18 +46,7 @@ abbrev pub NoZeroStart : {A : Type 0} → Reader A → Type 0
 NoZeroStart p = (s : List ℕ) (n : ℕ) → startsZeros (getD s n 0) ≡ true → Stuck p s n
 
 starts-inside : (s : List ℕ) (n : ℕ) → startsZeros (getD s n 0) ≡ true → n < length s
-starts-inside s n h = go (eqb (getD s n 0) 80) refl h
-  where
-    go : (t : Bool) → eqb (getD s n 0) 80 ≡ t → or t (eqb (getD s n 0) 82) ≡ true → n < length s
-    go true e h = inside s n 79 (eqb-true (getD s n 0) 80 e)
-    go false e h = inside s n 81 (eqb-true (getD s n 0) 82 h)
-
-no-date-byte : (b : ℕ) → startsZeros b ≡ true → Outside date-parts.bytes b
-no-date-byte b h = go (eqb b 80) refl h
-  where
-    go : (t : Bool) → eqb b 80 ≡ t → or t (eqb b 82) ≡ true → Outside date-parts.bytes b
-    go true e h = rw (eqb-true b 80 e)
-    go false e h = rw (eqb-true b 82 h)
+starts-inside s n h = by-start (λ b. getD s n 0 ≡ b → n < length s) (inside s n 79) (inside s n 81) (getD s n 0) h refl
 
 no-date : NoZeroStart date
 no-date s n h = record { reads = reads; opens = λ o. absurd (open-apart (date-item .lawful) (take n s) (getD s n 0) (drop (suc n) s) n other fits (rw (← there) o)) }
@@ -70,7 +58,7 @@ no-date s n h = record { reads = reads; opens = λ o. absurd (open-apart (date-i
     fits = omega (arith, length-take-le n s (omega (arith, starts-inside s n h)))
 
     other : Outside date-parts.bytes (getD s n 0)
-    other = no-date-byte (getD s n 0) h
+    other = by-start (Outside date-parts.bytes) refl refl (getD s n 0) h
 
     reads : date .reads s n ≡ no
     reads = ap (λ (l : List ℕ). date .reads l n) there ∙ date-item .lawful .steady .foreign (take n s) (getD s n 0) (drop (suc n) s) n other fits ∙ date-item .fails (take n s) n (omega (arith, length-take-le n s (omega (arith, starts-inside s n h))))
@@ -119,17 +107,9 @@ module _ {A : Type 0} {w : ℕ} {p : Reader A} (hp : Trims fractions w p) (none-
   stamp-from-sides zeros z may m n (behind k e g) b = rw (e, g) (local-behind (own zeros z) p (hp .local) k)
 
 -- a duration is read the same from anywhere: it takes no comma or point
-no-duration-byte : (b : ℕ) → apart fractions b ≡ true → Outside duration-laws.bytes b
-no-duration-byte b h = go (eqb b 47) refl (eqb b 44) refl h
-  where
-    go : (t : Bool) → eqb b 47 ≡ t → (u : Bool) → eqb b 44 ≡ u → or t (or u (eqb b 46)) ≡ true → Outside duration-laws.bytes b
-    go true e u g h = rw (eqb-true b 47 e)
-    go false e true g h = rw (eqb-true b 44 g)
-    go false e false g h = rw (eqb-true b 46 h)
-
 pub duration-simulates : (f : Family) (z : Own f) → Simulates (own f z) duration
 duration-simulates zeros z = duration-trims .simulates (inl z)
-duration-simulates fractions z = foreign-simulates fractions duration (duration-trims .local) duration-laws.duration-bounded (λ s b y at h. duration-laws.duration-item .lawful .steady .foreign s b y at (no-duration-byte b h)) (inl z)
+duration-simulates fractions z = foreign-simulates fractions duration (duration-trims .local) duration-laws.duration-bounded (λ s b y at h. duration-laws.duration-item .lawful .steady .foreign s b y at (by-apart (Outside duration-laws.bytes) refl refl refl b h)) (inl z)
 
 -- ---- a side begins behind each `/`
 
@@ -169,22 +149,14 @@ repetitions-side s at b r n = made (opt repeated) (mapFound orOnce) s at from-no
 
 module _ (f : Family) (z : Own f) where
   slash-same : Simulates (own f z) (lit 47)
-  slash-same = lit-simulates f 47 (no-mark f) z
-    where
-      no-mark : (g : Family) → mark g 47 ≡ false
-      no-mark zeros = refl
-      no-mark fractions = refl
+  slash-same = lit-simulates f 47 (unmarked 47 refl refl f) z
 
   repetitions-same : Simulates (own f z) repetitions
   unfolding repetitions repeated repeatRun
-  repetitions-same = map-simulates c orOnce (opt repeated) (opt-simulates c repeated (seq-simulates c (lit 82) _ (lit-simulates f 82 (no-mark f) z) (λ _. seq-simulates c (opt repeatRun) _ (opt-simulates c repeatRun (run-simulates f 4294967295 (inl z))) (λ n. map-simulates c (λ _. timesOf n) (lit 47) slash-same))))
+  repetitions-same = map-simulates c orOnce (opt repeated) (opt-simulates c repeated (seq-simulates c (lit 82) _ (lit-simulates f 82 (unmarked 82 refl refl f) z) (λ _. seq-simulates c (opt repeatRun) _ (opt-simulates c repeatRun (run-simulates f 4294967295 (inl z))) (λ n. map-simulates c (λ _. timesOf n) (lit 47) slash-same))))
     where
       c : Cut
       c = own f z
-
-      no-mark : (g : Family) → mark g 82 ≡ false
-      no-mark zeros = refl
-      no-mark fractions = refl
 
   -- a `/` and what is read from where a side begins
   slashed : {A : Type 0} (q : Reader A) → FromSides (own f z) q → Simulates (own f z) (seq (lit 47) (λ _. q))

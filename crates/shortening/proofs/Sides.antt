@@ -21,6 +21,14 @@ use Rattle.shortening.proofs.Families.{Family, zeros, fractions, run-di
 abbrev pub opens : ℕ → Family
 opens b = pick (startsZeros b) zeros fractions
 
+-- what holds of each of the two bytes that say so
+pub by-start : (P : ℕ → Type 0) → P 80 → P 82 → (b : ℕ) → startsZeros b ≡ true → P b
+by-start P duration repeat b h = go (eqb b 80) refl h
+  where
+    go : (t : Bool) → eqb b 80 ≡ t → or t (eqb b 82) ≡ true → P b
+    go true e h = rw (eqb-true b 80 e) duration
+    go false e h = rw (eqb-true b 82 h) repeat
+
 -- what the bytes so far say of the side that they end in: nothing where it begins. Where there are no sides it stays as it is.
 abbrev pub orOpens : Option Family → ℕ → Family
 orOpens none b = opens b
@@ -138,18 +146,11 @@ clean-end : (f : Family) (s : List ℕ) (at : ℕ) → length s ≤ at → Clean
 clean-end zeros s at h = λ g b d e. let l = ap length (sym e ∙ run-end s at h) in absurd (omega arith)
 clean-end fractions s at h = λ p. absurd (true≢false (sym p ∙ rw (List·getD-eq-default s 0 h)))
 
-zeros-no-digit : (b : ℕ) → startsZeros b ≡ true → isDigit b ≡ false
-zeros-no-digit b h = go (eqb b 80) refl h
-  where
-    go : (t : Bool) → eqb b 80 ≡ t → or t (eqb b 82) ≡ true → isDigit b ≡ false
-    go true e h = rw (eqb-true b 80 e)
-    go false e h = rw (eqb-true b 82 h)
-
 pub tidied-side : (s : List ℕ) → Tidied true none s → (from : ℕ) → begins s from ≡ true → Normal (opens (getD s from 0)) s from
 tidied-side s h from b at r = go (ltb at (length s)) refl (ltb from at) refl
   where
     first : (t : Bool) → startsZeros (getD s from 0) ≡ t → Clean (pick t zeros fractions) s from
-    first true e = λ g c d i. let some : 0 < length (runAt s from) = omega (arith, ap length i) in true≢false (sym (rw getD-drop at (run-digit (drop from s) 0 some)) ∙ rw add-zero (zeros-no-digit (getD s from 0) e))
+    first true e = λ g c d i. let some : 0 < length (runAt s from) = omega (arith, ap length i) in true≢false (sym (rw getD-drop at (run-digit (drop from s) 0 some)) ∙ rw add-zero (by-start (λ b. isDigit b ≡ false) refl refl (getD s from 0) e))
     first false e = h fractions from (rw (side-begins s from b))
 
     go : (t : Bool) → ltb at (length s) ≡ t → (u : Bool) → ltb from at ≡ u → Clean (opens (getD s from 0)) s at
