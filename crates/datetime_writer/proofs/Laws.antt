@@ -37,11 +37,11 @@ module _ (c : Choices) (x : DateTime) where
   unfolding dateTimeGiven
   both-given e f = rw (e, f)
 
-  dateTime-reads : dateTimeGiven c x ≡ true → ReadAs (dateTime c) (dateTimeSpelling x) [] x
+  pub dateTime-reads : dateTimeGiven c x ≡ true → ReadAs (dateTime c) (dateTimeSpelling x) [] x
   unfolding dateTime afterDate timeOf dateTimeSpelling
   dateTime-reads e = seq-reads _ (date-reads (x .date) _ (date-given e)) (seq-reads _ (lit-reads 84 _) (map-reads _ (base-reads c (x .time) (time-given e))))
 
-dateTime-yields : (c : Choices) → Yields (λ x. dateTimeGiven c x ≡ true) (dateTime c)
+pub dateTime-yields : (c : Choices) → Yields (λ x. dateTimeGiven c x ≡ true) (dateTime c)
 unfolding dateTime afterDate timeOf
 dateTime-yields c = seq-yields _ date-yields (λ d e. seq-yields _ (anything (lit 84)) (λ u z. map-yields _ (λ t f. both-given c (stamp d t) e f) (base-yields c)))
 

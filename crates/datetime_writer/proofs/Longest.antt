@@ -16,7 +16,7 @@ pub longest-stamp : (x : DateTime) → length (dateTimeSpelling x) ≤ 36
 longest-stamp x = omega (arith, size-is x, date-short (x .date), time-short (x .time))
 
 -- `-9999-12-31T23:59:60.123456789-23:59`
-pub last-stamp : DateTime
+unfoldable pub last-stamp : DateTime
 last-stamp = record {
   date = YMD (negsuc 9998) 12 31;
   time = record { hour = 23; minute = 59; second = 60; nanosecond = 123456789; digits = 9; offset = Given (record { hours = negsuc 22; minutes = negsuc 58 }) };

@@ -4,16 +4,16 @@ use mathlib.Core.List.{List, [], _∷_, _++_, append-assoc, append-nil}
 use mathlib.Core.Bool.{Bool, true, false}
 use mathlib.Core.Option.{some, none}
 use mathlib.Core.Path.{_≡_, refl}
+use native.Mathlib.Omega.{arith}
 use borrow.Author.Tests.{eqb-true}
 use lib.Dec.{eqb}
-use lib.ListN.{length}
 use Rattle.types.specs.declared.Duration.{Duration}
 use Rattle.types.specs.Sums.{isZero}
-use Rattle.parser.specs.Reading.{Reader, got, lit, seq, opt, verify, map, give, and, or, pick}
-use Rattle.parser.specs.Digits.{digits, numberFrom, runAs}
+use Rattle.parser.specs.Reading.{Reader, lit, seq, opt, verify, give, and, or, pick}
 use Rattle.parser.proofs.Fields.{and-first, and-second}
 use Rattle.duration.specs.declared.DurationTimeParts.{DurationTimeParts}
 use Rattle.duration.specs.Rules.{part, present, TimeParts, someTime, timeOf, durationBaseTime, durationTime, Parts, partsRule, somePart, timeOrZero, durationOf, duration}
+use Rattle.text.specs.Text.{decimalOf}
 use Rattle.writing.specs.Spelling.{partSpelling, behindT, dateParts, timeParts, durationSpelling}
 use Rattle.writing.proofs.Texts.{ReadAs, Refuses, lit-reads, lit-refuses-end, seq-reads, seq-refuses-behind, map-reads, map-refuses, verify-reads, opt-reads, opt-lacks, give-reads, whole}
 use Rattle.writing.proofs.Digits.{begins}
@@ -21,7 +21,7 @@ use Rattle.writing.proofs.Laws.{Spells}
 use Rattle.duration_writer.specs.Ranges.{durationGiven, timeless}
 use Rattle.duration_writer.proofs.Sizes.{behind-t}
 use Rattle.duration_writer.proofs.Within.{Within, given-within, duration-yields}
-use Rattle.duration_writer.proofs.Parts.{kept, kept-is, none-here, past, then-reads}
+use Rattle.duration_writer.proofs.Parts.{kept, kept-is, none-here, spelled-reads, other-refuses, past, then-reads}
 
 -- ---- what is there of the parts
 
@@ -124,10 +124,33 @@ some-reads d w e =
     let all : ReadAs (seq (lit 80) (λ _. partsRule)) (80 ∷ dateParts d ++ behindT (timeParts d)) [] (partsKept d) = seq-reads _ (lit-reads 80 _) (parts-read d w) in
     rw (kept-back d) at (map-reads durationOf (verify-reads somePart some all))
 
-zero-reads : (y mo w d h m s : ℕ) → isZero (record { years = y; months = mo; weeks = w; days = d; hours = h; minutes = m; seconds = s }) ≡ true
-    → duration .reads (80 ∷ 84 ∷ 48 ∷ 83 ∷ []) 0 ≡ got (record { years = y; months = mo; weeks = w; days = d; hours = h; minutes = m; seconds = s }) 4
-unfolding isZero duration partsRule durationTime durationBaseTime part runAs digits numberFrom lit seq opt verify map give
-zero-reads y mo w d h m s e =
+-- ---- where all parts are 0
+
+abbrev zeros : Duration
+zeros = record { years = 0; months = 0; weeks = 0; days = 0; hours = 0; minutes = 0; seconds = 0 }
+
+zero-time-reads : ReadAs durationBaseTime (48 ∷ 83 ∷ []) [] (timeIs zeros)
+unfolding durationBaseTime decimalOf
+zero-time-reads =
+    map-reads timeOf
+    (verify-reads someTime refl
+    (seq-reads _ (opt-lacks (other-refuses 72 83 0 [] refl refl (omega arith)))
+    (seq-reads _ (opt-lacks (other-refuses 77 83 0 [] refl refl (omega arith)))
+    (seq-reads _ (opt-reads (spelled-reads 83 0 [] refl (omega arith))) (give-reads _ [])))))
+
+zero-reads : ReadAs duration (80 ∷ 84 ∷ 48 ∷ 83 ∷ []) [] zeros
+unfolding duration partsRule durationTime
+zero-reads =
+    map-reads durationOf
+    (verify-reads somePart refl
+    (seq-reads _ (lit-reads 80 _)
+    (seq-reads _ (opt-lacks (none-here 89 refl)) (seq-reads _ (opt-lacks (none-here 77 refl)) (seq-reads _ (opt-lacks (none-here 87 refl)) (seq-reads _ (opt-lacks (none-here 68 refl))
+    (seq-reads _ (opt-reads (seq-reads _ (opt-reads (lit-reads 84 _)) zero-time-reads)) (give-reads _ []))))))))
+
+zeros-only : (y mo w d h m s : ℕ) → isZero (record { years = y; months = mo; weeks = w; days = d; hours = h; minutes = m; seconds = s }) ≡ true
+    → zeros ≡ record { years = y; months = mo; weeks = w; days = d; hours = h; minutes = m; seconds = s }
+unfolding isZero
+zeros-only y mo w d h m s e =
     let f = and-second (eqb y 0) e in
     let g = and-second (eqb mo 0) f in
     let i = and-second (eqb w 0) g in
@@ -135,13 +158,15 @@ zero-reads y mo w d h m s e =
     let k = and-second (eqb h 0) j in
     rw (first-zero y _ e, first-zero mo _ f, first-zero w _ g, first-zero d _ i, first-zero h _ j, first-zero m _ k, eqb-true s 0 (and-second (eqb m 0) k))
 
-pub duration-back : (d : Duration) → durationGiven d ≡ true → duration .reads (durationSpelling d) 0 ≡ got d (length (durationSpelling d))
+-- ---- so a duration is read back, wherever it stands
+
+pub duration-reads : (d : Duration) → durationGiven d ≡ true → ReadAs duration (durationSpelling d) [] d
 unfolding durationSpelling
-duration-back d g = go (isZero d) refl
+duration-reads d g = go (isZero d) refl
   where
-    go : (t : Bool) → isZero d ≡ t → duration .reads (pick t (80 ∷ 84 ∷ 48 ∷ 83 ∷ []) (80 ∷ dateParts d ++ behindT (timeParts d))) 0 ≡ got d (length (pick t (80 ∷ 84 ∷ 48 ∷ 83 ∷ []) (80 ∷ dateParts d ++ behindT (timeParts d))))
-    go true e = zero-reads (d .years) (d .months) (d .weeks) (d .days) (d .hours) (d .minutes) (d .seconds) e
-    go false e = whole (some-reads d (given-within d g) e)
+    go : (t : Bool) → isZero d ≡ t → ReadAs duration (pick t (80 ∷ 84 ∷ 48 ∷ 83 ∷ []) (80 ∷ dateParts d ++ behindT (timeParts d))) [] d
+    go true e = rw (zeros-only (d .years) (d .months) (d .weeks) (d .days) (d .hours) (d .minutes) (d .seconds) e) at zero-reads
+    go false e = some-reads d (given-within d g) e
 
 pub duration-spells : Spells duration durationSpelling durationGiven
-duration-spells = record { back = duration-back; ranges = λ d r. duration-yields .fact (r .bytes) 0 d (r .count) (r .reads) }
+duration-spells = record { back = λ d g. whole (duration-reads d g); ranges = λ d r. duration-yields .fact (r .bytes) 0 d (r .count) (r .reads) }

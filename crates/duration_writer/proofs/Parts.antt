@@ -27,13 +27,13 @@ kept-is (suc n) = rw (not-zero n)
 module _ (letter : ℕ) where
   pub none-here : {x : List ℕ} → begins x ≡ false → Refuses (part letter) x
   unfolding part
-  none-here o = seq-refuses _ (run-refuses o)
+  none-here o = seq-refuses _ (run-refuses _ _ _ o)
 
-  spelled-reads : (n : ℕ) (x : List ℕ) → isDigit letter ≡ false → n ≤ limit → ReadAs (part letter) (decimal n ++ letter ∷ []) x n
+  pub spelled-reads : (n : ℕ) (x : List ℕ) → isDigit letter ≡ false → n ≤ limit → ReadAs (part letter) (decimal n ++ letter ∷ []) x n
   unfolding part
   spelled-reads n x o h = seq-reads _ (decimal-reads n (letter ∷ x) h o) (map-reads _ (lit-reads letter x))
 
-  other-refuses : (c n : ℕ) (x : List ℕ) → isDigit c ≡ false → eqb c letter ≡ false → n ≤ limit → Refuses (part letter) (decimal n ++ c ∷ x)
+  pub other-refuses : (c n : ℕ) (x : List ℕ) → isDigit c ≡ false → eqb c letter ≡ false → n ≤ limit → Refuses (part letter) (decimal n ++ c ∷ x)
   unfolding part
   other-refuses c n x o e h = seq-refuses-behind _ (decimal-reads n (c ∷ x) h o) (map-refuses _ (lit-refuses letter e))
 

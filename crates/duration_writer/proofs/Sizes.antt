@@ -1,39 +1,18 @@
--- How many digits a number has, and how many bytes a part: a tenth of a number has one digit less.
-use Prim.Native.Nat.{ℕ, zero, suc, _+_, _/_, _%_, _^_, _≤_, _<_}
+-- How many bytes a part has, and where the `T` stands.
+use Prim.Native.Nat.{ℕ, zero, suc, _+_, _≤_, _<_}
 use mathlib.Core.List.{List, [], _∷_, _++_, append-assoc}
 use mathlib.Core.Bool.{Bool, true, false}
-use mathlib.Core.Path.{_≡_, refl, ap, _∙_}
+use mathlib.Core.Path.{_≡_, refl}
 use native.Mathlib.Omega.{arith}
-use native.Mathlib.Nat.{pow-suc}
-use native.Mathlib.Numerals.{add-one}
-use borrow.Author.Tests.{lt-ltb, le-ltb, ne-eqb}
-use lib.Dec.{ltb, eqb}
+use borrow.Author.Tests.{ne-eqb}
+use lib.Dec.{eqb}
 use lib.ListN.{length, length-append}
 use Rattle.types.specs.declared.Duration.{Duration}
 use Rattle.parser.specs.Reading.{pick, and}
-use Rattle.text.specs.Text.{decimal, decimalOf}
+use Rattle.text.specs.Text.{decimal}
 use Rattle.text.proofs.Decimals.{digits-short}
 use Rattle.writing.specs.Spelling.{partSpelling, behindT, dateParts, timeParts}
 use Rattle.duration_writer.specs.Ranges.{timeless}
-
-pub one-digit : (k n : ℕ) → n < 10 → decimalOf (suc k) n ≡ (48 + n) ∷ []
-unfolding decimalOf
-one-digit k n h = rw (lt-ltb n 10 h)
-
--- room for a digit more changes nothing
-steady : (k n : ℕ) → n < 10 ^ suc k → decimalOf (suc (suc k)) n ≡ decimalOf (suc k) n
-unfolding decimalOf
-steady zero n h = rw (lt-ltb n 10 (omega (arith, pow-suc 10 0)))
-steady (suc k) n h = ap (λ (l : List ℕ). pick (ltb n 10) ((48 + n) ∷ []) (l ++ (48 + n % 10) ∷ [])) (steady k (n / 10) (omega (arith, pow-suc 10 (suc k))))
-
-digit-less : (k n : ℕ) → 9 < n → n < 10 ^ suc (suc k) → length (decimalOf (suc (suc k)) n) ≡ suc (length (decimalOf (suc (suc k)) (n / 10)))
-unfolding decimalOf
-digit-less k n l h =
-    let e = steady k (n / 10) (omega (arith, pow-suc 10 (suc k))) in
-    rw (e, le-ltb n 10 l) (length-append (decimalOf (suc k) (n / 10)) ((48 + n % 10) ∷ []) ∙ add-one _)
-
-pub decimal-less : (n : ℕ) → 9 < n → n < 10 ^ 20 → length (decimal n) ≡ suc (length (decimal (n / 10)))
-decimal-less n l h = digit-less 18 n l h
 
 -- ---- a part
 

@@ -12,6 +12,7 @@ use text::put_byte;
 use text::put_decimal;
 use types::Duration;
 use writing::Written;
+use writing::decimal_length;
 
 // The length of a part, whatever its letter: none where the number is 0, or its digits and the letter.
 fn part_length(n: u64) -> usize
@@ -21,13 +22,7 @@ fn part_length(n: u64) -> usize
     if n == 0 {
         return 0;
     }
-    let mut rest = n;
-    let mut count = 2;
-    while 9 < rest {
-        rest = rest / 10;
-        count += 1;
-    }
-    count
+    decimal_length(n) + 1
 }
 
 // Puts a part: nothing where the number is 0. Most numbers have one digit, and these go by themselves.

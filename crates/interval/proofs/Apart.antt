@@ -1,29 +1,31 @@
 -- A date-time and a duration never begin with the same byte; and of two alternatives that never do, each has its own laws in the whole.
-use Prim.Native.Nat.{ℕ, _+_, _<_, _≤_}
+use Prim.Native.Nat.{ℕ, suc, _+_, _≤_}
 use mathlib.Core.List.{List, _∷_, _++_}
 use mathlib.Core.Bool.{Bool, true, false, not}
-use mathlib.Core.Option.{none}
 use mathlib.Core.Path.{_≡_, refl, sym, _∙_}
 use mathlib.Core.Logic.{_⊎_, inl, inr}
 use native.Mathlib.Omega.{arith}
 use lib.Dec.{ltb, eqb}
-use lib.ListN.{length, getD, length-append}
-use borrow.Author.Tests.{ltb-false, lt-ltb, eqb-true, not-true}
+use lib.ListN.{length, getD, take, drop, length-append}
+use lib.Seq.{length-take-le, split-at}
+use borrow.Author.Tests.{ltb-true, ltb-false, lt-ltb, eqb-true, not-true}
 use Rattle.types.specs.declared.Choices.{Choices}
-use Rattle.parser.specs.Reading.{Found, no, got, stop, Reader, lit, alt, orElse, failed, pick, or, and, Says}
-use Rattle.parser.specs.Digits.{isDigit, field}
-use Rattle.parser.specs.Fields.{signed}
-use Rattle.parser.proofs.Fields.{true≢false, OtherAt, digitsFrom-other, digitsMore-other}
-use Rattle.parser.proofs.Stable.{or-false}
+use Rattle.types.specs.declared.DateTime.{DateTime}
+use Rattle.types.specs.declared.Duration.{Duration}
+use Rattle.parser.specs.Reading.{Found, no, got, stop, Reader, lit, seq, alt, orElse, failed, verify, map, pick, or, and, Says}
+use Rattle.parser.proofs.Fields.{true≢false}
 use Rattle.parser.proofs.Places.{no≢got, alt-fails}
 use Rattle.parser.proofs.General.{alt-eager}
 use Rattle.parser.proofs.Steady.{alt-steady}
-use Rattle.parser.proofs.Hopeful.{Ends, AnyByte, Less, Changes, Starts, ends-weaken, hopeful-weaken, ends-alt, ends-else}
-use Rattle.parser.proofs.Lawful.{In, most, most-left, most-right, ItemOr}
-use Rattle.parser.proofs.Says.{says-map, says-opt, says-seq-got, says-seq-no, says-alt-no, says-alt-first}
+use Rattle.parser.proofs.Hopeful.{Ends, AnyByte, Less, Changes, Starts, ends-weaken, ends-alt, ends-else}
+use Rattle.parser.proofs.Lawful.{In, Outside, most, most-left, most-right, open-apart, Item, ItemOr}
+use Rattle.parser.proofs.Says.{says-seq-no, says-alt-no, says-alt-first}
 use Rattle.parser.proofs.Says as telling
-use Rattle.date.specs.Rules.{date, year, digitsOfYear, minus}
+use Rattle.date.specs.Rules.{date}
+use Rattle.date.proofs.Parts as date-parts
+use Rattle.date.proofs.Laws.{date-item}
 use Rattle.datetime.specs.Rules.{dateTime, afterDate}
+use Rattle.datetime.proofs.Laws.{datetime-item}
 use Rattle.duration.specs.Rules.{duration}
 use Rattle.duration.proofs.Whole.{without-p}
 use Rattle.interval.specs.Rules.{noFormFails, tried}
@@ -62,33 +64,41 @@ says-alt-out p q s at no m h o = rw (telling.or-false m) at (says-alt-no p s at 
 says-alt-out p q s at (stop r) m h o = says-alt-first p s at q (stop r) m refl h
 says-alt-out p q s at (got a n) m h o = says-alt-first p s at q (got a n) m refl h
 
--- ---- a date begins with a sign or a digit, and a duration with `P`
+-- ---- nothing is found at a byte that an item never takes
 
-pub lit-out : (c : ℕ) (s : List ℕ) (at : ℕ) → ltb at (length s) ≡ true → eqb (getD s at 0) c ≡ false → Out (lit c) s at
+module _ {W : Type 0} {A : Type 0} {l : List ℕ} {Y : ℕ → Bool} {j k : ℕ} {F : A → Type 0} {p : Reader A} (hp : ItemOr W l Y j k F p) (s : List ℕ) (at : ℕ) (i : ltb at (length s) ≡ true) (o : Outside l (getD s at 0)) where
+  item-no : p .reads s at ≡ no
+  item-no =
+      let place : length (take at s) ≡ at = length-take-le at s (omega (arith, ltb-true at (length s) i)) in
+      let same = hp .lawful .steady .foreign (take at s) (getD s at 0) (drop (suc at) s) at o (omega arith) in
+      rw (← split-at s at 0 (ltb-true at (length s) i)) at (same ∙ hp .fails (take at s) at (omega arith))
+
+-- so it does not stand where something is found
+pub elsewhere : {W : Type 0} {A : Type 0} {l : List ℕ} {Y : ℕ → Bool} {j k : ℕ} {F : A → Type 0} {p : Reader A} → ItemOr W l Y j k F p → (c : ℕ) → Outside l c → (s : List ℕ) (at : ℕ) (v : A) (n : ℕ) → p .reads s at ≡ got v n → lit c .reads s at ≡ no
 unfolding lit
-lit-out c s at i e = record { found = rw (i, e); more = rw i }
+elsewhere hp c o s at v n e = go (ltb at (length s)) refl (eqb (getD s at 0) c) refl
+  where
+    go : (t : Bool) → ltb at (length s) ≡ t → (u : Bool) → eqb (getD s at 0) c ≡ u → lit c .reads s at ≡ no
+    go false i u q = rw i
+    go true i false q = rw (i, q)
+    go true i true q = absurd (no≢got (sym (item-no hp s at i (rw (eqb-true (getD s at 0) c q) o)) ∙ e))
 
--- no sign and no digit
-abbrev pub starts : ℕ → Bool
-starts b = or (isDigit b) (or (eqb b 45) (eqb b 43))
+-- and nothing is open there
+pub item-out : {A : Type 0} {l : List ℕ} {Y : ℕ → Bool} {j k : ℕ} {F : A → Type 0} {p : Reader A} → Item l Y j k F p → (s : List ℕ) (at : ℕ) → ltb at (length s) ≡ true → Outside l (getD s at 0) → Out p s at
+item-out {p = p} hp s at i o = record { found = sym (item-no hp s at i o); more = go (p .more s at) refl }
+  where
+    go : (m : Bool) → p .more s at ≡ m → false ≡ m
+    go false e = refl
+    go true e =
+        let there = split-at s at 0 (ltb-true at (length s) i) in
+        let still : p .more (take at s ++ getD s at 0 ∷ drop (suc at) s) at ≡ true = rw (← there) e in
+        absurd (open-apart (hp .lawful) (take at s) (getD s at 0) (drop (suc at) s) at o (omega (arith, length-take-le at s (omega (arith, ltb-true at (length s) i)))) still)
 
-module _ (s : List ℕ) (at : ℕ) (i : ltb at (length s) ≡ true) (p : starts (getD s at 0) ≡ false) where
-  year-out : Out year s at
-  unfolding year field
-  year-out =
-      let both = or-false (isDigit (getD s at 0)) _ p in
-      let signs = or-false (eqb (getD s at 0) 45) _ (both .1) in
-      let other : OtherAt s at = record { inside = i; is = both .0 } in
-      let sign = says-alt-no _ s at _ false no false (says-map _ s at (λ _. true) no false (lit-out 45 s at i (signs .0))) (says-map _ s at (λ _. false) no false (lit-out 43 s at i (signs .1))) in
-      let digits : Out (field 4 100 9999) s at = record { found = sym (digitsFrom-other 100 9999 4 0 s at (omega arith) other); more = sym (digitsMore-other 100 9999 4 0 s at (omega arith) other) } in
-      says-seq-got _ s at (λ o. digitsOfYear (minus o)) none at false no false (says-opt signed s at no false sign) (says-map _ s at _ no false digits)
+-- ---- a date never takes `P`, with which each duration begins
 
+module _ (s : List ℕ) (at : ℕ) (i : ltb at (length s) ≡ true) (p : Outside date-parts.bytes (getD s at 0)) where
   date-out : Out date s at
-  unfolding date
-  date-out =
-      says-alt-no _ s at _ false no false (says-seq-no year s at _ false year-out)
-      (says-alt-no _ s at _ false no false (says-seq-no year s at _ false year-out)
-      (says-alt-no _ s at _ false no false (says-seq-no year s at _ false year-out) (says-seq-no year s at _ false year-out)))
+  date-out = item-out date-item s at i p
 
   pub stamp-out : (c : Choices) → Out (dateTime c) s at
   unfolding dateTime
@@ -104,6 +114,19 @@ tried-out h = record { found = rw (← h .found); more = h .more }
 
 pub duration-out : (s : List ℕ) (at : ℕ) → ltb at (length s) ≡ true → eqb (getD s at 0) 80 ≡ false → Out duration s at
 duration-out s at i e = without-p s at false (lit-out 80 s at i e)
+
+-- where the one is read the other is not
+pub stamp-alone : (c : Choices) (s : List ℕ) (at : ℕ) (x : DateTime) (n : ℕ) → dateTime c .reads s at ≡ got x n → duration .reads s at ≡ no
+unfolding duration map verify seq
+stamp-alone c s at x n e = rw (elsewhere (datetime-item c) 80 refl s at x n e)
+
+pub duration-alone : (c : Choices) (s : List ℕ) (at : ℕ) (d : Duration) (n : ℕ) → duration .reads s at ≡ got d n → dateTime c .reads s at ≡ no
+duration-alone c s at d n e = go (ltb at (length s)) refl (eqb (getD s at 0) 80) refl
+  where
+    go : (t : Bool) → ltb at (length s) ≡ t → (u : Bool) → eqb (getD s at 0) 80 ≡ u → dateTime c .reads s at ≡ no
+    go false i u q = datetime-item c .fails s at (ltb-false at (length s) i)
+    go true i true q = sym (stamp-out s at i (rw (eqb-true (getD s at 0) 80 q)) c .found)
+    go true i false q = absurd (no≢got (duration-out s at i q .found ∙ e))
 
 -- ---- alternatives of which one or the other is out wherever a byte stands
 

@@ -5,6 +5,7 @@ use mathlib.Core.Bool.{Bool, true, false}
 use mathlib.Core.Path.{_≡_, refl, sym, ap, _∙_}
 use native.Mathlib.Omega.{arith}
 use native.Mathlib.Nat.{add-zero, add-suc, pow-suc, pow-succ', div-one, div-div-eq-div-mul}
+use native.Mathlib.Numerals.{add-one}
 use borrow.Author.Tests.{lt-ltb, le-ltb, le-leb, ltb-true}
 use lib.Dec.{ltb}
 use lib.IntN.{natAbs}
@@ -144,9 +145,9 @@ unfolding runAs
 run-reads f may r none k o l = absurd (omega arith)
 run-reads f may r (also {b} {d} hb h) k o l = record { reads = λ a. rw (run-at _ (also {b = b} {d = d} hb h) o a, l) }
 
-pub run-refuses : {x : List ℕ} → begins x ≡ false → Refuses run x
+pub run-refuses : {A : Type 0} (f : List ℕ → A) (may : ℕ → Bool) (r : ℕ) {x : List ℕ} → begins x ≡ false → Refuses (runAs f may r) x
 unfolding runAs
-run-refuses o = record { finds = λ a. rw (run-at _ none o a) }
+run-refuses f may r o = record { finds = λ a. rw (run-at _ none o a) }
 
 -- ---- a number as it comes
 
@@ -178,7 +179,43 @@ some-digit k n = go (ltb n 10)
     go true = omega arith
     go false = omega (arith, length-append (decimalOf k (n / 10)) ((48 + n % 10) ∷ []))
 
+-- read in a run that may be so great
+pub decimal-within : (most r n : ℕ) (x : List ℕ) → n ≤ most → n < 10 ^ 20 → begins x ≡ false → ReadAs (runAs number (atMost most) r) (decimal n) x n
+decimal-within most r n x l h o =
+    let e = number-decimal 20 n h in
+    rw e at (run-reads number (atMost most) r {x = x} (decimal-digits 20 n) (some-digit 19 n) o (rw e (le-leb n most l)))
+
 pub decimal-reads : (n : ℕ) (x : List ℕ) → n ≤ limit → begins x ≡ false → ReadAs run (decimal n) x n
-decimal-reads n x l o =
-    let e = number-decimal 20 n (omega arith) in
-    rw e at (run-reads number (atMost limit) 2 {x = x} (decimal-digits 20 n) (some-digit 19 n) o (rw e (le-leb n limit l)))
+decimal-reads n x l o = decimal-within limit 2 n x l (omega arith) o
+
+-- ---- how many digits it has: a tenth of a number has one less
+
+pub one-digit : (k n : ℕ) → n < 10 → decimalOf (suc k) n ≡ (48 + n) ∷ []
+unfolding decimalOf
+one-digit k n h = rw (lt-ltb n 10 h)
+
+-- room for a digit more changes nothing
+steady : (k n : ℕ) → n < 10 ^ suc k → decimalOf (suc (suc k)) n ≡ decimalOf (suc k) n
+unfolding decimalOf
+steady zero n h = rw (lt-ltb n 10 (omega (arith, pow-suc 10 0)))
+steady (suc k) n h = ap (λ (l : List ℕ). pick (ltb n 10) ((48 + n) ∷ []) (l ++ (48 + n % 10) ∷ [])) (steady k (n / 10) (omega (arith, pow-suc 10 (suc k))))
+
+digit-less : (k n : ℕ) → 9 < n → n < 10 ^ suc (suc k) → length (decimalOf (suc (suc k)) n) ≡ suc (length (decimalOf (suc (suc k)) (n / 10)))
+unfolding decimalOf
+digit-less k n l h =
+    let e = steady k (n / 10) (omega (arith, pow-suc 10 (suc k))) in
+    rw (e, le-ltb n 10 l) (length-append (decimalOf (suc k) (n / 10)) ((48 + n % 10) ∷ []) ∙ add-one _)
+
+pub decimal-less : (n : ℕ) → 9 < n → n < 10 ^ 20 → length (decimal n) ≡ suc (length (decimal (n / 10)))
+decimal-less n l h = digit-less 18 n l h
+
+-- below ten to the power of so many, at most so many
+pub digits-few : (k m n : ℕ) → n < 10 ^ suc k → length (decimalOf m n) ≤ suc k
+unfolding decimalOf
+digits-few k zero n h = omega arith
+digits-few zero (suc m) n h = rw (lt-ltb n 10 (omega (arith, pow-suc 10 0))) (omega arith)
+digits-few (suc k) (suc m) n h = go (ltb n 10) (digits-few k m (n / 10) (omega (arith, pow-suc 10 (suc k))))
+  where
+    go : (t : Bool) → length (decimalOf m (n / 10)) ≤ suc k → length (pick t ((48 + n) ∷ []) (decimalOf m (n / 10) ++ (48 + n % 10) ∷ [])) ≤ suc (suc k)
+    go true ih = omega arith
+    go false ih = omega (arith, length-append (decimalOf m (n / 10)) ((48 + n % 10) ∷ []))

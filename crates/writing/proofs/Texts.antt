@@ -12,6 +12,7 @@ use lib.Dec.{eqb}
 use lib.ListN.{length, length-append}
 use lib.Seq.{getD-append-seam}
 use Rattle.parser.proofs.Alike.{Alike}
+use Rattle.parser.proofs.Places.{Foreign}
 use Rattle.parser.specs.Reading.{no, got, Reader, lit, seq, opt, alt, verify, must, map, give}
 
 -- the reader p reads the text t to the value v, where x stands behind it and whatever stands before it
@@ -29,6 +30,14 @@ module _ {A : Type 0} {p : Reader A} where
 
   refused-behind : {x : List ℕ} → Refuses p x → (a t : List ℕ) → p .reads (a ++ (t ++ x)) (length a + length t) ≡ no
   refused-behind {x} h a t = rw (length-append a t, append-assoc a t x) at (h .finds (a ++ t))
+
+  -- a byte that the reader never takes, and what stands behind that, reads as the end does
+  pub foreign-reads : {X : ℕ → Type 0} → Foreign X p → {c : ℕ} → X c → {t y : List ℕ} {v : A} → ReadAs p t [] v → ReadAs p t (c ∷ y) v
+  foreign-reads f {c} o {t} {y} {v} h = record {
+    reads = λ a.
+        let same = f (a ++ t) c y (length a) o (omega (arith, length-append a t)) in
+        rw (append-assoc a t (c ∷ y)) at (same ∙ rw (append-nil t) at (h .reads a));
+  }
 
   -- from the first byte to the last
   pub whole : {t : List ℕ} {v : A} → ReadAs p t [] v → p .reads t 0 ≡ got v (length t)

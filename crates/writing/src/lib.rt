@@ -1,9 +1,10 @@
-// What writers share: their answer, and digits in a fixed width.
+// What writers share: their answer, digits in a fixed width, and how many digits a number has.
 ghost use mathlib.Core.Path.{_≡_};
-ghost use Prim.Native.Nat.{_+_, _%_};
+ghost use Prim.Native.Nat.{_+_, _%_, _≤_};
 ghost use lib.IntN.{natAbs};
+ghost use lib.ListN.{length};
 ghost use Rattle.parser.specs.Reading.{and};
-ghost use Rattle.text.specs.Text.{Puts};
+ghost use Rattle.text.specs.Text.{Puts, decimal};
 ghost use Rattle.writing.specs.Spelling.{padded};
 ghost use Rattle.writing.specs.Writing.{numberOf, countOf};
 use text::put_byte;
@@ -95,4 +96,18 @@ pub fn put_three(out: &mut [u8], at: usize, n: u32) -> usize
 {
     let next = put_byte(out, at, last_digit(n / 100));
     put_two(out, next, n % 100)
+}
+
+// How many decimal digits a number has.
+pub fn decimal_length(n: u64) -> usize
+    ensures size { λ r. ⌜ r ≡ length (decimal n) ⌝ }
+    ensures most { λ r. ⌜ r ≤ 20 ⌝ }
+{
+    let mut rest = n;
+    let mut count = 1;
+    while 9 < rest {
+        rest = rest / 10;
+        count += 1;
+    }
+    count
 }

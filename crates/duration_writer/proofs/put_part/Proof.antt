@@ -4,7 +4,8 @@ use borrow.Author.Tests.{eq-eqb}
 use native.Mathlib.Omega.{arith}
 use Rattle.text.proofs.Laws.{then-puts, puts-nothing}
 use Rattle.writing.specs.Spelling.{partSpelling}
-use Rattle.duration_writer.proofs.Sizes.{one-digit, part-some}
+use Rattle.writing.proofs.Digits.{one-digit}
+use Rattle.duration_writer.proofs.Sizes.{part-some}
 use Rattle.duration_writer.proofs.put_part.Statement.{statement}
 use Rattle.duration_writer.proofs.put_part.Tie as tie
 
