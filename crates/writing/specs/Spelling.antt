@@ -1,4 +1,5 @@
--- The one spelling of each record, beside the sentences of requests W1 and W7. Bytes: `+` 43, `-` 45, `.` 46, `0` 48, `:` 58, and letters.
+-- The one spelling of each record, beside the sentences of requests W1, W7 and W12. Bytes: `+` 43, `-` 45, `.` 46, `/` 47, `0` 48, `:` 58, and
+-- letters.
 use Prim.Native.Nat.{ℕ, zero, suc, _+_, _/_, _%_}
 use mathlib.Core.List.{List, [], _∷_, _++_}
 use mathlib.Core.Bool.{Bool, true, false}
@@ -13,6 +14,11 @@ use Rattle.types.specs.declared.Date.{Date}
 use Rattle.types.specs.declared.Date.the-variants.{YMD, Week, Ordinal}
 use Rattle.types.specs.declared.DateTime.{DateTime}
 use Rattle.types.specs.declared.Duration.{Duration}
+use Rattle.types.specs.declared.Interval.{Interval}
+use Rattle.types.specs.declared.IntervalRange.{IntervalRange}
+use Rattle.types.specs.declared.IntervalRange.the-variants as range
+use Rattle.types.specs.declared.Repetitions.{Repetitions}
+use Rattle.types.specs.declared.Repetitions.the-variants.{Once, Unlimited, Times}
 use Rattle.types.specs.Sums.{isZero}
 use Rattle.parser.specs.Reading.{or, and, pick}
 use Rattle.text.specs.Text.{decimal}
@@ -97,3 +103,19 @@ timeParts d = partSpelling (d .hours) 72 ++ partSpelling (d .minutes) 77 ++ part
 
 unfoldable pub durationSpelling : Duration → List ℕ
 durationSpelling d = pick (isZero d) (80 ∷ 84 ∷ 48 ∷ 83 ∷ []) (80 ∷ dateParts d ++ behindT (timeParts d))
+
+-- ---- an interval: {`R`, the number of times if one was read, `/`} where `R` was read, and the sides as their own spellings, `/` between them
+
+unfoldable pub repetitionsSpelling : Repetitions → List ℕ
+repetitionsSpelling Once = []
+repetitionsSpelling Unlimited = 82 ∷ 47 ∷ []
+repetitionsSpelling (Times n) = 82 ∷ decimal n ++ 47 ∷ []
+
+unfoldable pub rangeSpelling : IntervalRange → List ℕ
+rangeSpelling (range.Closed a b) = dateTimeSpelling a ++ 47 ∷ dateTimeSpelling b
+rangeSpelling (range.ClosedEnd d b) = durationSpelling d ++ 47 ∷ dateTimeSpelling b
+rangeSpelling (range.ClosedStart a d) = dateTimeSpelling a ++ 47 ∷ durationSpelling d
+rangeSpelling (range.Open d) = durationSpelling d
+
+unfoldable pub intervalSpelling : Interval → List ℕ
+intervalSpelling x = repetitionsSpelling (x .repetitions) ++ rangeSpelling (x .range)
