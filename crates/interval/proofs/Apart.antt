@@ -64,6 +64,11 @@ says-alt-out p q s at no m h o = rw (telling.or-false m) at (says-alt-no p s at 
 says-alt-out p q s at (stop r) m h o = says-alt-first p s at q (stop r) m refl h
 says-alt-out p q s at (got a n) m h o = says-alt-first p s at q (got a n) m refl h
 
+-- another byte than c stands there
+pub lit-out : (c : ℕ) (s : List ℕ) (at : ℕ) → ltb at (length s) ≡ true → eqb (getD s at 0) c ≡ false → Out (lit c) s at
+unfolding lit
+lit-out c s at i e = record { found = rw (i, e); more = rw i }
+
 -- ---- nothing is found at a byte that an item never takes
 
 module _ {W : Type 0} {A : Type 0} {l : List ℕ} {Y : ℕ → Bool} {j k : ℕ} {F : A → Type 0} {p : Reader A} (hp : ItemOr W l Y j k F p) (s : List ℕ) (at : ℕ) (i : ltb at (length s) ≡ true) (o : Outside l (getD s at 0)) where

@@ -23,7 +23,7 @@ read-of a v = record { answer = a; verdict = v }
 
 pub read-once : (c : Choices) (s : List ℕ) (a b : IntervalRead) → intervalReads c s a → intervalReads c s b → a ≡ b
 unfolding read-of
-read-once c s a b h k = let x = begins-once 14 (interval c) s _ _ _ _ h k in ap₂ read-of (told-once (a .answer) (b .answer) (x .0)) (x .1)
+read-once c s a b h k = let x = begins-once _ (interval c) s _ _ _ _ h k in ap₂ read-of (told-once (a .answer) (b .answer) (x .0)) (x .1)
 
 pub parsed-once : (c : Choices) (s : List ℕ) (a b : IntervalAnswer) → intervalParses c s a → intervalParses c s b → a ≡ b
 parsed-once c s a b h k = told-once a b (h ∙ sym k)
