@@ -29,18 +29,18 @@ whole-readable k s r n e =
     let found = ended-got (length s) (ruleOf k .reads s 0) r n e in
     rw (kind-read k s r n found) (record { bytes = s; count = n; reads = found })
 
--- a spelling has at most 149 bytes, a refusal fewer
-refused-short : (r : ℕ) → length (refusedWord ++ decimal r) ≤ 149
+-- a spelling has at most 198 bytes, a refusal fewer
+refused-short : (r : ℕ) → length (refusedWord ++ decimal r) ≤ 198
 refused-short r = rw (length-append refusedWord (decimal r)) (omega (arith, digits-short 20 r))
 
-said-short : (k : Kind) (s : List ℕ) → length (said (ended (length s) (ruleOf k .reads s 0))) ≤ 149
+said-short : (k : Kind) (s : List ℕ) → length (said (ended (length s) (ruleOf k .reads s 0))) ≤ 198
 said-short k s = go (ruleOf k .reads s 0) refl
   where
-    whole : (r : Record) (n : ℕ) (t : Bool) → ruleOf k .reads s 0 ≡ got r n → length (said (pick t (refused 3 n) (recorded r n))) ≤ 149
+    whole : (r : Record) (n : ℕ) (t : Bool) → ruleOf k .reads s 0 ≡ got r n → length (said (pick t (refused 3 n) (recorded r n))) ≤ 198
     whole r n true e = refused-short 3
     whole r n false e = spelling-short (choicesIn k) r (rw (kind-read k s r n e) (record { bytes = s; count = n; reads = e }))
 
-    go : (f : Found Record) → ruleOf k .reads s 0 ≡ f → length (said (ended (length s) f)) ≤ 149
+    go : (f : Found Record) → ruleOf k .reads s 0 ≡ f → length (said (ended (length s) f)) ≤ 198
     go no e = refused-short 1
     go (stop r) e = refused-short r
     go (got r n) e = whole r n (ltb n (length s)) e

@@ -17,8 +17,8 @@ use types::Choices;
 use words::rows::put_name;
 use words::word::Name;
 
-// As long as the longest spelling, a duration's.
-const LONGEST: usize = 149;
+// As long as the longest spelling, an interval's.
+const LONGEST: usize = 198;
 
 fn put_spelling(out: &mut [u8], at: usize, value: Record, choices: Choices) -> usize
     requires { ⌜ Readable (ruleOf (kindOf choices value)) value ⌝ }

@@ -14,13 +14,14 @@ use Rattle.time.specs.Rules.{time}
 use Rattle.offset.specs.Rules.{offset}
 use Rattle.datetime.specs.Rules.{dateTime}
 use Rattle.duration.specs.Rules.{duration}
+use Rattle.interval.specs.Once.{interval}
 use Rattle.kinds.specs.declared.answer.Kind.{Kind}
 use Rattle.kinds.specs.declared.answer.Kind.the-variants as kind
 use Rattle.kinds.specs.declared.answer.Record.{Record}
 use Rattle.kinds.specs.declared.answer.Record.the-variants as record-of
 use Rattle.kinds.specs.Kinds.{ruleOf, choicesIn}
 use Rattle.kinds.proofs.As.{ends-as}
-use Rattle.writing.specs.Spelling.{offsetSpelling, timeSpelling, dateSpelling, dateTimeSpelling, durationSpelling}
+use Rattle.writing.specs.Spelling.{offsetSpelling, timeSpelling, dateSpelling, dateTimeSpelling, durationSpelling, intervalSpelling}
 use Rattle.writing.specs.Writing.{Readable}
 use Rattle.writing.proofs.Yields.{Yields, map-yields, anything}
 use Rattle.writing.proofs.Laws.{read-back, read-back-by}
@@ -36,6 +37,8 @@ use Rattle.datetime_writer.proofs.Laws.{dateTime-spells}
 use Rattle.datetime_writer.proofs.Longest.{longest-stamp}
 use Rattle.duration_writer.proofs.Laws.{duration-spells}
 use Rattle.duration_writer.proofs.Longest.{longest-duration}
+use Rattle.interval_writer.proofs.Laws as interval-writer
+use Rattle.interval_writer.proofs.Longest.{longest-interval}
 use Rattle.writers.specs.Spellings.{kindOf, spelling}
 use Rattle.writers.proofs.As.{readable-back}
 
@@ -46,6 +49,7 @@ of-kind (kind.Time c) = map-yields _ (λ a z. refl) (anything (time c))
 of-kind kind.Offset = map-yields _ (λ a z. refl) (anything offset)
 of-kind (kind.Stamp c) = map-yields _ (λ a z. refl) (anything (dateTime c))
 of-kind kind.Duration = map-yields _ (λ a z. refl) (anything duration)
+of-kind (kind.Interval c) = map-yields _ (λ a z. refl) (anything (interval c))
 
 pub kind-read : (k : Kind) (s : List ℕ) (r : Record) (n : ℕ) → ruleOf k .reads s 0 ≡ got r n → kindOf (choicesIn k) r ≡ k
 kind-read k s r n e = of-kind k .fact s 0 r n e
@@ -62,15 +66,17 @@ either-reading e r q (record-of.Time v) h = ends-as record-of.Time (time (under 
 either-reading e r q (record-of.Offset v) h = ends-as record-of.Offset offset (offsetSpelling v) refl (read-back offset-spells v (readable-back record-of.Offset (λ a b e. cc) h))
 either-reading e r q (record-of.Stamp v) h = ends-as record-of.Stamp (dateTime (under e q)) (dateTimeSpelling v) refl (read-back-by (dateTime-spells (under e r)) (dateTime-spells (under e q)) v (readable-back record-of.Stamp (λ a b e. cc) h))
 either-reading e r q (record-of.Duration v) h = ends-as record-of.Duration duration (durationSpelling v) refl (read-back duration-spells v (readable-back record-of.Duration (λ a b e. cc) h))
+either-reading e r q (record-of.Interval v) h = ends-as record-of.Interval (interval (under e q)) (intervalSpelling v) refl (interval-writer.either-reading e r q v (readable-back record-of.Interval (λ a b e. cc) h))
 
 -- "A whole reading of what was written gives the record back"
 pub reads-back : (c : Choices) (r : Record) → Readable (ruleOf (kindOf c r)) r → Ended (ruleOf (kindOf c r)) (spelling r) (recorded r (length (spelling r)))
 reads-back c = either-reading (c .edition) (c .reading) (c .reading)
 
--- no spelling is longer than a duration's
-pub spelling-short : (c : Choices) (r : Record) → Readable (ruleOf (kindOf c r)) r → length (spelling r) ≤ 149
+-- no spelling is longer than an interval's
+pub spelling-short : (c : Choices) (r : Record) → Readable (ruleOf (kindOf c r)) r → length (spelling r) ≤ 198
 spelling-short c (record-of.Date v) h = omega (arith, date-short v)
 spelling-short c (record-of.Time v) h = omega (arith, time-short v)
 spelling-short c (record-of.Offset v) h = omega (arith, offset-short v)
 spelling-short c (record-of.Stamp v) h = omega (arith, longest-stamp v)
-spelling-short c (record-of.Duration v) h = longest-duration v
+spelling-short c (record-of.Duration v) h = omega (arith, longest-duration v)
+spelling-short c (record-of.Interval v) h = longest-interval c v (readable-back record-of.Interval (λ a b e. cc) h)

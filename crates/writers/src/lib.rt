@@ -5,6 +5,7 @@ ghost use Rattle.writers.specs.Spellings.{kindOf, spelling};
 use date_writer::write_date;
 use datetime_writer::write_datetime;
 use duration_writer::write_duration;
+use interval_writer::write_interval;
 use kinds::answer::Record;
 use offset_writer::write_offset;
 use time_writer::write_time;
@@ -21,5 +22,6 @@ pub fn write(value: Record, choices: Choices, buffer: &mut [u8]) -> Written
         Record::Offset(v) => write_offset(v, buffer),
         Record::Stamp(v) => write_datetime(v, choices, buffer),
         Record::Duration(v) => write_duration(v, buffer),
+        Record::Interval(v) => write_interval(v, choices, buffer),
     }
 }

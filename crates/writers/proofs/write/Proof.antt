@@ -10,7 +10,7 @@ write-spec =
     tie.close
     (tie.spec
     (λ c. search needs) (λ c κs. search needs) (λ c. search needs) (λ c κs. search needs) (λ c. search needs) (λ c κs. search needs)
-    (λ c. search needs) (λ c κs. search needs) (λ c. search needs) (λ c κs. search needs) (λ c. search needs)
+    (λ c. search needs) (λ c κs. search needs) (λ c. search needs) (λ c κs. search needs) (λ c. search needs) (λ c κs. search needs) (λ c. search needs)
     (λ c. let w = c .before .before in rw (w .before .before .before .value .given .1) (writes-as record-of.Date (λ a b e. cc) (w .write-date .ensures)))
     (λ c. search needs)
     (λ c. let w = c .before .before in rw (w .before .before .before .value2 .given .1) (writes-as record-of.Time (λ a b e. cc) (w .write-time .ensures)))
@@ -19,4 +19,6 @@ write-spec =
     (λ c. search needs)
     (λ c. let w = c .before .before in rw (w .before .before .before .value4 .given .1) (writes-as record-of.Stamp (λ a b e. cc) (w .write-datetime .ensures)))
     (λ c. search needs)
-    (λ c. let w = c .before .before in rw (w .before .before .before .value5 .given .1) (writes-as record-of.Duration (λ a b e. cc) (w .write-duration .ensures))))
+    (λ c. let w = c .before .before in rw (w .before .before .before .value5 .given .1) (writes-as record-of.Duration (λ a b e. cc) (w .write-duration .ensures)))
+    (λ c. search needs)
+    (λ c. let w = c .before .before in rw (w .before .before .before .value6 .given .1) (writes-as record-of.Interval (λ a b e. cc) (w .write-interval .ensures))))
