@@ -23,6 +23,11 @@ lettersOf name.None = 110 ∷ 111 ∷ 110 ∷ 101 ∷ []
 lettersOf name.Over = 111 ∷ 118 ∷ 101 ∷ 114 ∷ []
 lettersOf name.Dash = 45 ∷ []
 lettersOf name.Unknown = 117 ∷ 110 ∷ 107 ∷ 110 ∷ 111 ∷ 119 ∷ 110 ∷ []
+lettersOf name.Interval = 105 ∷ 110 ∷ 116 ∷ 101 ∷ 114 ∷ 118 ∷ 97 ∷ 108 ∷ []
+lettersOf name.Once = 111 ∷ 110 ∷ 99 ∷ 101 ∷ []
+lettersOf name.Repeat = 82 ∷ []
+lettersOf name.Stamp = 115 ∷ 116 ∷ 97 ∷ 109 ∷ 112 ∷ []
+lettersOf name.Slash = 47 ∷ []
 
 -- at most k bytes that stand in a number, the first in its low byte
 unfoldable pub packed : ℕ → ℕ → List ℕ
@@ -33,11 +38,14 @@ packed (suc k) n = pick (eqb n 0) [] (n % 256 ∷ packed k (n / 256))
 abbrev pub spaced : List ℕ → List ℕ
 spaced w = 32 ∷ w
 
--- "one space between words": each word but a line's first stands behind one; "a minus where negative"
+-- "one space between words": each word but a line's first stands behind one; "a minus where negative". What is joined to the word before is
+-- the rest of it
 abbrev pub wordText : Word → List ℕ
 wordText (word.Name n) = spaced (lettersOf n)
 wordText (word.Number n) = spaced (decimal n)
 wordText (word.Minus n) = spaced (45 ∷ decimal n)
+wordText (word.Joined n) = lettersOf n
+wordText (word.Digits n) = decimal n
 wordText word.Nothing = []
 
 abbrev pub textOf : List Word → List ℕ

@@ -2,7 +2,9 @@
 ghost use mathlib.Core.Path.{_≡_};
 ghost use mathlib.Core.List.{[], _∷_};
 ghost use Rattle.words.specs.Words.{textOf};
-ghost use Rattle.words.specs.Records.{verdictWord, shownWord, headWords, offsetWords, timeOffsetWord, timeWords, dateWords, secondsWord, durationWords};
+ghost use Rattle.words.specs.Records.{verdictWord, shownWord, headWords, offsetWords, timeOffsetWord, timeWords, dateWords, secondsWord, durationWords, shapeWords, intervalWords};
+ghost use Rattle.words.specs.declared.word.Name.the-variants as name;
+ghost use Rattle.words.specs.declared.word.Word.the-variants.{Name as Named};
 use crate::word::Name;
 use crate::word::Word;
 use crate::word::signed;
@@ -10,7 +12,10 @@ use crate::word::small;
 use types::Date;
 use types::Duration;
 use types::InSeconds;
+use types::Interval;
+use types::IntervalRange;
 use types::Offset;
+use types::Repetitions;
 use types::Time;
 use types::TimeOffset;
 use types::Verdict;
@@ -149,4 +154,61 @@ pub fn duration(v: Duration) -> [Word; 9]
         Word::Number(v.seconds),
         seconds_word(v.in_seconds()),
     ]
+}
+
+// An interval's row: how often, in two words, and one side, or two with the slash between.
+fn interval_row(repeat: Name, times: Word, side: Name, slash: Word, other: Word) -> [Word; 9]
+    ensures { λ r. ⌜ textOf r ≡ textOf (Named name.Interval ∷ Named repeat ∷ times ∷ Named side ∷ slash ∷ other ∷ []) ⌝ }
+{
+    let no = Word::Nothing;
+    [
+        Word::Name(Name::Interval),
+        Word::Name(repeat),
+        times,
+        Word::Name(side),
+        slash,
+        other,
+        no,
+        no,
+        no,
+    ]
+}
+
+// interval, REPEAT in two words, and stamp/stamp, duration/stamp, stamp/duration or duration
+fn shaped(repeat: Name, times: Word, range: IntervalRange) -> [Word; 9]
+    ensures { λ r. ⌜ textOf r ≡ textOf (Named name.Interval ∷ Named repeat ∷ times ∷ shapeWords range) ⌝ }
+{
+    let slash = Word::Joined(Name::Slash);
+    let stamp = Word::Joined(Name::Stamp);
+    let duration = Word::Joined(Name::Duration);
+    let no = Word::Nothing;
+    match range {
+        IntervalRange::Closed { start: _, end: _ } => {
+            interval_row(repeat, times, Name::Stamp, slash, stamp)
+        }
+        IntervalRange::ClosedEnd {
+            duration: _,
+            end: _,
+        } => interval_row(repeat, times, Name::Duration, slash, stamp),
+        IntervalRange::ClosedStart {
+            start: _,
+            duration: _,
+        } => interval_row(repeat, times, Name::Stamp, slash, duration),
+        IntervalRange::Open { duration: _ } => {
+            interval_row(repeat, times, Name::Duration, no, no)
+        }
+    }
+}
+
+// interval REPEAT SHAPE, REPEAT being once, R or R5
+pub fn interval(v: Interval) -> [Word; 9]
+    ensures { λ r. ⌜ textOf r ≡ textOf (intervalWords v) ⌝ }
+{
+    let repetitions = v.repetitions;
+    let range = v.range;
+    match repetitions {
+        Repetitions::Once => shaped(Name::Once, Word::Nothing, range),
+        Repetitions::Unlimited => shaped(Name::Repeat, Word::Nothing, range),
+        Repetitions::Times(n) => shaped(Name::Repeat, Word::Digits(n as u64), range),
+    }
 }

@@ -20,7 +20,7 @@ pub fn put_name(out: &mut [u8], at: usize, name: Name) -> usize
     next
 }
 
-// Puts a word and the space before it.
+// Puts a word and the space before it, or what is joined to the word before.
 pub fn put_word(out: &mut [u8], at: usize, word: Word) -> usize
     ensures { λ r. ⌜ Puts (wordText word) (now (out .entry)) at (now (out .exit)) r ⌝ }
 {
@@ -38,6 +38,8 @@ pub fn put_word(out: &mut [u8], at: usize, word: Word) -> usize
             let next = put_byte(out, next, 45);
             put_decimal(out, next, n)
         }
+        Word::Joined(name) => put_name(out, at, name),
+        Word::Digits(n) => put_decimal(out, at, n),
         Word::Nothing => at,
     }
 }

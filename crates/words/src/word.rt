@@ -15,13 +15,21 @@ pub enum Name {
     Over,
     Dash,
     Unknown,
+    Interval,
+    Once,
+    Repeat,
+    Stamp,
+    Slash,
 }
 
-// A word with the space before it. Nothing is no word: rows of words have places to spare.
+// A word with the space before it; Joined and Digits are the rest of the word before them, a name or a number with no space. Nothing is no
+// word: rows of words have places to spare.
 pub enum Word {
     Name(Name),
     Number(u64),
     Minus(u64),
+    Joined(Name),
+    Digits(u64),
     Nothing,
 }
 
@@ -42,6 +50,11 @@ pub fn letters(name: Name) -> u64
         Name::Over => 0x7265766f, // over
         Name::Dash => 0x2d, // -
         Name::Unknown => 0x6e776f6e6b6e75, // unknown
+        Name::Interval => 0x6c61767265746e69, // interval
+        Name::Once => 0x65636e6f, // once
+        Name::Repeat => 0x52, // R
+        Name::Stamp => 0x706d617473, // stamp
+        Name::Slash => 0x2f, // /
     }
 }
 
