@@ -57,6 +57,16 @@ letterOf c b =
     (pick (eqb b 116) (Names (kind.Time c))
     (pick (eqb b 111) (Names kind.Offset) (pick (eqb b 115) (Names (kind.Stamp c)) (pick (eqb b 112) (Names kind.Duration) (pick (eqb b 105) (Names (kind.Interval c)) Unknown)))))
 
+-- the same where intervals have no letter: what breaks a text and a week's counts are asked of the five kinds before W12
+abbrev pub amongFive : Letter → Letter
+amongFive (Names (kind.Interval c)) = Unknown
+amongFive (Names kind.Date) = Names kind.Date
+amongFive (Names (kind.Time c)) = Names (kind.Time c)
+amongFive (Names kind.Offset) = Names kind.Offset
+amongFive (Names (kind.Stamp c)) = Names (kind.Stamp c)
+amongFive (Names kind.Duration) = Names kind.Duration
+amongFive Unknown = Unknown
+
 -- the paper's number, the record if there is one, and the count
 abbrev pub told : Answer → Told Record
 told (answer.Record r n) = recorded r n

@@ -1,7 +1,7 @@
 // A kind as a value, and what its readers answer.
 ghost use mathlib.Core.Path.{_≡_};
 ghost use Rattle.types.specs.Numbers.{numberOf};
-ghost use Rattle.kinds.specs.Kinds.{choicesIn, told};
+ghost use Rattle.kinds.specs.Kinds.{choicesIn, amongFive, told};
 use types::Choices;
 use types::Date;
 use types::DateTime;
@@ -64,6 +64,25 @@ pub struct Read {
 pub enum Letter {
     Names(Kind),
     Unknown,
+}
+
+impl Letter {
+    // The same where intervals have no letter.
+    pub fn among_five(self) -> Letter
+        ensures { λ r. ⌜ r ≡ amongFive self ⌝ }
+    {
+        match self {
+            Letter::Names(kind) => match kind {
+                Kind::Interval(_) => Letter::Unknown,
+                Kind::Date => self,
+                Kind::Time(_) => self,
+                Kind::Offset => self,
+                Kind::Stamp(_) => self,
+                Kind::Duration => self,
+            },
+            Letter::Unknown => self,
+        }
+    }
 }
 
 fn number_of(why: Refusal) -> u64
