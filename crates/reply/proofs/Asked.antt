@@ -13,8 +13,9 @@ use Rattle.parser.specs.Reading.{pick}
 use Rattle.kinds.specs.declared.answer.Kind.{Kind}
 use Rattle.kinds.specs.declared.answer.Letter.{Letter}
 use Rattle.kinds.specs.declared.answer.Letter.the-variants.{Names, Unknown}
+use Rattle.kinds.proofs.Letters.{among-named}
 use Rattle.reply.specs.declared.Head.{Head}
-use Rattle.reply.specs.Line.{plainHead, has, headOf, headFrom, questionIn, questionOf, textIn, AnswersTo, Answers}
+use Rattle.reply.specs.Line.{plainHead, has, headOf, headFrom, questionIn, questionOf, textIn, plainQuestion, plainText, AnswersTo, Answers}
 
 -- a head is two bytes, three or four
 pub head-size : (l : List ℕ) → (2 ≤ headOf l .from) × (headOf l .from ≤ 4)
@@ -28,7 +29,7 @@ head-size l = go (has l 1 52) (has l 2 115) (has l 1 115)
     go false u false = (omega arith, omega arith)
 
 module _ (h : Head) (l : List ℕ) where
-  pub names-long-in : (k : Kind) → questionIn h l ≡ Names k → h .from ≤ length l
+  names-long-in : (k : Kind) → questionIn h l ≡ Names k → h .from ≤ length l
   unfolding questionIn
   names-long-in k e = go _ (leb (h .from) (length l)) refl e
     where
@@ -41,7 +42,7 @@ module _ (h : Head) (l : List ℕ) where
   unfolding questionIn
   past-unknown i = rw (le-leb (h .from) (length l) (omega arith), lt-leb (length l) (h .from + 200) i)
 
-  pub names-short-in : (k : Kind) → questionIn h l ≡ Names k → length (drop (h .from) l) ≤ 200
+  names-short-in : (k : Kind) → questionIn h l ≡ Names k → length (drop (h .from) l) ≤ 200
   names-short-in k e = go (leb (length l) (h .from + 200)) refl
     where
       go : (t : Bool) → leb (length l) (h .from + 200) ≡ t → length (drop (h .from) l) ≤ 200
@@ -53,6 +54,14 @@ names-long l = names-long-in (headOf l) l
 
 pub names-short : (l : List ℕ) (k : Kind) → questionOf l ≡ Names k → length (textIn l) ≤ 200
 names-short l = names-short-in (headOf l) l
+
+-- the same where intervals have no letter
+module _ (l : List ℕ) (k : Kind) (e : plainQuestion l ≡ Names k) where
+  pub plain-long : 2 ≤ length l
+  plain-long = names-long-in plainHead l k (among-named _ k e)
+
+  pub plain-short : length (plainText l) ≤ 200
+  plain-short = names-short-in plainHead l k (among-named _ k e)
 
 -- What holds of the first bytes of a line, more than n of them, holds of the line, where lines of more than n bytes are all alike.
 pub clip-alike : (P : List ℕ → Type 0) (n limit : ℕ) → n < limit → ((l m : List ℕ) → n < length l → n < length m → P l → P m) → (l : List ℕ) → P (take limit l) → P l

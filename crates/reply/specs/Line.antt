@@ -10,6 +10,9 @@ use Rattle.types.specs.Editions.{document01}
 use Rattle.types.specs.declared.Edition.{Edition}
 use Rattle.types.specs.declared.Edition.the-variants.{E2004, E2019}
 use Rattle.types.specs.declared.Reading.the-variants.{Old, Standard}
+use Rattle.types.specs.declared.DateTime.{DateTime}
+use Rattle.types.specs.declared.IntervalRange.{IntervalRange}
+use Rattle.types.specs.declared.IntervalRange.the-variants as range
 use Rattle.types.specs.declared.Verdict.{Verdict}
 use Rattle.parser.specs.Reading.{and, pick}
 use Rattle.parser.specs.Answer.{Told, Begins, Ended}
@@ -18,32 +21,33 @@ use Rattle.kinds.specs.declared.answer.Record.{Record}
 use Rattle.kinds.specs.declared.answer.Record.the-variants as record-of
 use Rattle.kinds.specs.declared.answer.Letter.{Letter}
 use Rattle.kinds.specs.declared.answer.Letter.the-variants.{Names, Unknown}
-use Rattle.kinds.specs.Kinds.{ruleOf, bound, letterOf}
+use Rattle.kinds.specs.Kinds.{ruleOf, bound, letterOf, amongFive}
 use Rattle.words.specs.declared.word.Name.the-variants as name
 use Rattle.text.specs.Text.{Puts, decimal}
 use Rattle.words.specs.Words.{lettersOf, textOf}
 use Rattle.words.specs.declared.word.Word.{Word}
 use Rattle.words.specs.declared.word.Word.the-variants.{Name as Named}
 use Rattle.reply.specs.declared.Head.{Head}
-use Rattle.words.specs.Records.{headWords, offsetWords, timeWords, dateWords, durationWords}
+use Rattle.words.specs.Records.{headWords, offsetWords, timeWords, dateWords, durationWords, intervalWords}
 
 -- "for a date-time the date's words, then the time's"
-abbrev pub firstWords : Bool → Record → List Word
-firstWords shown (record-of.Date v) = dateWords v
-firstWords shown (record-of.Time v) = timeWords shown v
-firstWords shown (record-of.Offset v) = offsetWords v
-firstWords shown (record-of.Stamp v) = dateWords (v .date)
-firstWords shown (record-of.Duration v) = durationWords v
+abbrev pub stampWords : Bool → DateTime → List Word
+stampWords shown v = dateWords (v .date) ++ timeWords shown (v .time)
 
-abbrev pub thenWords : Bool → Record → List Word
-thenWords shown (record-of.Stamp v) = timeWords shown (v .time)
-thenWords shown (record-of.Date v) = []
-thenWords shown (record-of.Time v) = []
-thenWords shown (record-of.Offset v) = []
-thenWords shown (record-of.Duration v) = []
+-- "the words of both records, `-` for the second of a duration alone"
+abbrev pub sidesWords : Bool → IntervalRange → List Word
+sidesWords shown (range.Closed a b) = stampWords shown a ++ stampWords shown b
+sidesWords shown (range.ClosedEnd d b) = durationWords d ++ stampWords shown b
+sidesWords shown (range.ClosedStart a d) = stampWords shown a ++ durationWords d
+sidesWords shown (range.Open d) = durationWords d ++ Named name.Dash ∷ []
 
 abbrev pub recordWords : Bool → Record → List Word
-recordWords shown r = firstWords shown r ++ thenWords shown r
+recordWords shown (record-of.Date v) = dateWords v
+recordWords shown (record-of.Time v) = timeWords shown v
+recordWords shown (record-of.Offset v) = offsetWords v
+recordWords shown (record-of.Stamp v) = stampWords shown v
+recordWords shown (record-of.Duration v) = durationWords v
+recordWords shown (record-of.Interval v) = intervalWords v ++ sidesWords shown (v .range)
 
 -- "RECORD: `-` where B is not 0"
 abbrev pub recordOrDash : Bool → Option Record → List Word
@@ -90,9 +94,9 @@ questionOf l = questionIn (headOf l) l
 abbrev pub textIn : List ℕ → List ℕ
 textIn l = drop (headOf l .from) l
 
--- "`why` has neither"
+-- "`why` has neither", nor the letter `i`
 abbrev pub plainQuestion : List ℕ → Letter
-plainQuestion l = questionIn plainHead l
+plainQuestion l = amongFive (questionIn plainHead l)
 
 abbrev pub plainText : List ℕ → List ℕ
 plainText l = drop (plainHead .from) l

@@ -8,7 +8,7 @@ ghost use mathlib.Core.Path.{_≡_};
 ghost use Rattle.kinds.specs.Kinds.{told};
 ghost use Rattle.text.specs.Text.{Puts};
 ghost use Rattle.words.specs.Words.{textOf};
-ghost use Rattle.reply.specs.Line.{firstWords, recordWords, recordOrDash, Gives, Answered, has, headFrom, headOf, questionIn, questionOf, plainQuestion, Answers, AnswersLine};
+ghost use Rattle.reply.specs.Line.{stampWords, sidesWords, recordWords, recordOrDash, Gives, Answered, has, headFrom, headOf, questionIn, questionOf, plainQuestion, Answers, AnswersLine};
 use kinds::answer::Answer;
 use kinds::answer::Kind;
 use kinds::answer::Letter;
@@ -16,7 +16,9 @@ use kinds::answer::Record;
 use text::put_byte;
 use text::put_decimal;
 use types::Choices;
+use types::DateTime;
 use types::Edition;
+use types::IntervalRange;
 use types::Reading;
 use words::records;
 use words::rows::put_name;
@@ -25,35 +27,54 @@ use words::rows::put_words;
 use words::word::Name;
 use words::word::Word;
 
-// A record's words; of a date-time the date's, and the time's follow.
-fn first_row(value: Record, shown: bool) -> [Word; 9]
-    ensures { λ r. ⌜ textOf r ≡ textOf (firstWords shown value) ⌝ }
+// A date-time's words: the date's, then the time's.
+fn put_stamp(out: &mut [u8], at: usize, v: DateTime, shown: bool) -> usize
+    ensures { λ r. ⌜ Puts (textOf (stampWords shown v)) (now (out .entry)) at (now (out .exit)) r ⌝ }
 {
-    match value {
-        Record::Date(v) => records::date(v),
-        Record::Time(v) => records::time(v, shown),
-        Record::Offset(v) => records::offset(v),
-        Record::Stamp(v) => {
-            let date = v.date;
-            records::date(date)
+    let date = v.date;
+    let time = v.time;
+    let next = put_words(out, at, records::date(date));
+    put_words(out, next, records::time(time, shown))
+}
+
+// The words of both records of an interval, one behind the other; a dash for the second of a duration alone.
+fn put_sides(out: &mut [u8], at: usize, range: IntervalRange, shown: bool) -> usize
+    ensures { λ r. ⌜ Puts (textOf (sidesWords shown range)) (now (out .entry)) at (now (out .exit)) r ⌝ }
+{
+    match range {
+        IntervalRange::Closed { start, end } => {
+            let next = put_stamp(out, at, start, shown);
+            put_stamp(out, next, end, shown)
         }
-        Record::Duration(v) => records::duration(v),
+        IntervalRange::ClosedEnd { duration, end } => {
+            let next = put_words(out, at, records::duration(duration));
+            put_stamp(out, next, end, shown)
+        }
+        IntervalRange::ClosedStart { start, duration } => {
+            let next = put_stamp(out, at, start, shown);
+            put_words(out, next, records::duration(duration))
+        }
+        IntervalRange::Open { duration } => {
+            let next = put_words(out, at, records::duration(duration));
+            put_word(out, next, Word::Name(Name::Dash))
+        }
     }
 }
 
 fn put_record(out: &mut [u8], at: usize, value: Record, shown: bool) -> usize
     ensures { λ r. ⌜ Puts (textOf (recordWords shown value)) (now (out .entry)) at (now (out .exit)) r ⌝ }
 {
-    let next = put_words(out, at, first_row(value, shown));
     match value {
-        Record::Stamp(v) => {
-            let time = v.time;
-            put_words(out, next, records::time(time, shown))
+        Record::Date(v) => put_words(out, at, records::date(v)),
+        Record::Time(v) => put_words(out, at, records::time(v, shown)),
+        Record::Offset(v) => put_words(out, at, records::offset(v)),
+        Record::Stamp(v) => put_stamp(out, at, v, shown),
+        Record::Duration(v) => put_words(out, at, records::duration(v)),
+        Record::Interval(v) => {
+            let range = v.range;
+            let next = put_words(out, at, records::interval(v));
+            put_sides(out, next, range, shown)
         }
-        Record::Date(_) => next,
-        Record::Time(_) => next,
-        Record::Offset(_) => next,
-        Record::Duration(_) => next,
     }
 }
 
@@ -168,11 +189,11 @@ pub fn question(line: &[u8]) -> Letter
     question_in(head_of(line), line)
 }
 
-// The same where a line names no choices.
+// The same where a line names no choices, and no interval.
 pub fn plain_question(line: &[u8]) -> Letter
     ensures { λ r. ⌜ r ≡ plainQuestion (now (line .entry)) ⌝ }
 {
-    question_in(Head::PLAIN, line)
+    question_in(Head::PLAIN, line).among_five()
 }
 
 // The answer to a line without its end. `shown`: with the verdict and the digits of a time, which the original has not.

@@ -1,7 +1,6 @@
--- A row, and a second of a date-time.
-use mathlib.Core.Path.{ap}
-use Rattle.reply.specs.Line.{thenWords}
-use Rattle.reply.proofs.Answers.{one-row, two-rows}
+-- Kind by kind.
+use Rattle.text.proofs.Laws.{then-puts}
+use Rattle.words.proofs.Laws.{text-append}
 use borrow.Author.Needs.{needs}
 use Rattle.reply.proofs.put_record.Statement.{statement}
 use Rattle.reply.proofs.put_record.Tie as tie
@@ -10,14 +9,22 @@ pub put-record-spec : {M : Type 1} → statement M
 put-record-spec =
     tie.close
     (tie.spec
-    (λ c κs. search needs) (λ c κs. search needs) (λ c. search needs) (λ c κs. search needs) (λ c κs. search needs) (λ c. search needs)
-    (λ c. search needs) (λ c. search needs) (λ c. search needs) (λ c. search needs)
-    (λ c. let a = c .before .before .before .before .before .before .before .before .before .before .before .before .before .before .before .args in two-rows (a .shown) (a .value) (c .before .before .before .before .before .before .before .before .before .before .before .before .first-row .ensures) (c .before .before .before .before .before .before .before .before .before .before .before .put-words .ensures) (rw (c .before .before .before .before .before .before .before .value .given .1, ← c .before .before .before .time2 .ensures) (c .before .before .put-words2 .ensures)))
+    (λ c. search needs) (λ c κs. search needs) (λ c κs. search needs) (λ c. search needs) (λ c κs. search needs) (λ c κs. search needs)
+    (λ c. search needs) (λ c κs. search needs) (λ c κs. search needs) (λ c. search needs) (λ c κs. search needs)
+    (λ c. search needs) (λ c κs. search needs) (λ c κs. search needs)
+    (λ c. search needs) (λ c κs. search needs) (λ c κs. search needs) (λ c κs. search needs)
     (λ c. search needs)
-    (λ c. let a = c .before .before .before .before .before .before .before .before .args in one-row (a .shown) (a .value) (c .before .before .before .before .before .first-row .ensures) (ap (thenWords (a .shown)) (c .enum-told .given .1)) (c .before .before .before .before .put-words .ensures))
+    (λ c. let row = c .before .before in rw (row .before .before .before .before .value .given .1) (rw (row .before .date .ensures) at (row .put-words .ensures)))
     (λ c. search needs)
-    (λ c. let a = c .before .before .before .before .before .before .before .before .args in one-row (a .shown) (a .value) (c .before .before .before .before .before .first-row .ensures) (ap (thenWords (a .shown)) (c .enum-told2 .given .1)) (c .before .before .before .before .put-words .ensures))
+    (λ c. let row = c .before .before in rw (row .before .before .before .before .value2 .given .1) (rw (row .before .time .ensures) at (row .put-words2 .ensures)))
     (λ c. search needs)
-    (λ c. let a = c .before .before .before .before .before .before .before .before .args in one-row (a .shown) (a .value) (c .before .before .before .before .before .first-row .ensures) (ap (thenWords (a .shown)) (c .enum-told3 .given .1)) (c .before .before .before .before .put-words .ensures))
+    (λ c. let row = c .before .before in rw (row .before .before .before .before .value3 .given .1) (rw (row .before .offset .ensures) at (row .put-words3 .ensures)))
     (λ c. search needs)
-    (λ c. let a = c .before .before .before .before .before .before .before .before .args in one-row (a .shown) (a .value) (c .before .before .before .before .before .first-row .ensures) (ap (thenWords (a .shown)) (c .enum-told4 .given .1)) (c .before .before .before .before .put-words .ensures)))
+    (λ c. rw (c .before .before .before .before .before .value4 .given .1) (c .before .before .put-stamp .ensures))
+    (λ c. search needs)
+    (λ c. let row = c .before .before in rw (row .before .before .before .before .value5 .given .1) (rw (row .before .duration .ensures) at (row .put-words4 .ensures)))
+    (λ c. search needs)
+    (λ c.
+    let sides = c .before .before in
+    let row = sides .before .before .before .before in
+    rw (row .before .before .before .before .value6 .given .1, text-append) (then-puts (rw (row .before .interval .ensures) at (row .put-words5 .ensures)) (sides .put-sides .ensures))))
