@@ -45,12 +45,12 @@ verdict-short Open = omega arith
 begun-short : (t : Told Record) (v : Verdict) → length (begunText t v) ≤ 52
 begun-short t v = simp length-append (omega (arith, digits-short 20 (t .number), digits-short 20 (t .count), verdict-short v))
 
-end-short : (whole last : Told Record) → length (endText whole last) ≤ 300
+end-short : (whole last : Told Record) → length (endText whole last) ≤ 700
 end-short whole last =
     let words = recordOrDash true (last .value) in
     simp length-append (omega (arith, digits-short 20 (whole .number), digits-short 20 (whole .count), text-short words, record-few true (last .value)))
 
-said-short : (k : Kind) (ps : List (List ℕ)) (all t : List ℕ) → SaysOf k all ps t → length t ≤ 52 * length ps + 300
+said-short : (k : Kind) (ps : List (List ℕ)) (all t : List ℕ) → SaysOf k all ps t → length t ≤ 52 * length ps + 700
 said-short k [] all t e = rw e (end-short (ended (length all) (ruleOf k .reads all 0)) (begun (ruleOf k .reads all 0)))
 said-short k (p ∷ ps) all t a =
     let one = begun-short (a .told) (a .verdict) in
