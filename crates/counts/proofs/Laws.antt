@@ -14,6 +14,7 @@ use Rattle.parser.specs.Reading.{Found, no, got, stop, pick}
 use Rattle.parser.specs.Answer.{begun, ended}
 use Rattle.parser.proofs.Fields.{and-right}
 use Rattle.kinds.specs.declared.answer.Record.{Record}
+use Rattle.kinds.specs.Kinds.{amongFive}
 use Rattle.reply.specs.Line.{plainHead}
 use Rattle.reply.proofs.Asked.{said-clip}
 use Rattle.counts.specs.Counts.{Line, lineIn, lineOf, howMany, isAt, isBad, listOf, rowIn, tableOf, badOf, adds, secondsInAll, Passes}
@@ -22,7 +23,7 @@ use Rattle.counts.specs.Seen.{wholly, seen, more, raisedIn, raised, coun
 -- what the first 205 bytes of a line are, or more of them, the line is
 pub line-clip : (limit : ℕ) (l : List ℕ) → 205 ≤ limit → lineOf (take limit l) ≡ lineOf l
 unfolding lineOf
-line-clip limit l h = sym (said-clip (λ m. plainHead) (λ m. omega arith) (λ q s. lineIn q s ≡ lineOf (take limit l)) (λ s u e. e) limit l h refl)
+line-clip limit l h = sym (said-clip (λ m. plainHead) (λ m. omega arith) (λ q s. lineIn (amongFive q) s ≡ lineOf (take limit l)) (λ s u e. e) limit l h refl)
 
 -- what the beginning reader finds tells the whole reader's answer
 pub ended-wholly : (all : ℕ) (f : Found Record) → ended all f ≡ wholly all (begun f)

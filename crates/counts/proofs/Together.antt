@@ -10,8 +10,10 @@ use Rattle.kinds.specs.declared.answer.Kind.{Kind}
 use Rattle.kinds.specs.declared.answer.Kind.the-variants as kind
 use Rattle.kinds.specs.declared.answer.Letter.{Letter}
 use Rattle.kinds.specs.declared.answer.Letter.the-variants.{Names, Unknown}
+use Rattle.kinds.specs.Far.{OfFive}
 use Rattle.kinds.proofs.Laws.{four-answers}
-use Rattle.reply.specs.Line.{plainQuestion, plainText}
+use Rattle.kinds.proofs.Letters.{FiveOr, among-five}
+use Rattle.reply.specs.Line.{plainHead, questionIn, plainQuestion, plainText}
 use Rattle.counts.specs.Counts.{rowOf, Line, lineIn, lineOf, howMany, isAt, isBad, listOf, rowIn, tableOf, total, inAll, MakeUp}
 use Rattle.counts.proofs.Laws.{own-place, other-row, other-answer}
 
@@ -24,21 +26,22 @@ PlacedOr : Option Line → Type 0
 PlacedOr (some x) = Placed x
 PlacedOr none = Unit {0}
 
-row-small : (k : Kind) → rowOf k ≤ 4
-row-small kind.Date = omega arith
-row-small (kind.Time c) = omega arith
-row-small kind.Offset = omega arith
-row-small (kind.Stamp c) = omega arith
-row-small kind.Duration = omega arith
+row-small : (k : Kind) → OfFive k → rowOf k ≤ 4
+row-small kind.Date five = omega arith
+row-small (kind.Time c) five = omega arith
+row-small kind.Offset five = omega arith
+row-small (kind.Stamp c) five = omega arith
+row-small kind.Duration five = omega arith
+row-small (kind.Interval c) five = absurd five
 
-placed-in : (q : Letter) (s : List ℕ) → PlacedOr (lineIn q s)
+placed-in : (q : Letter) (s : List ℕ) → FiveOr q → PlacedOr (lineIn q s)
 unfolding PlacedOr
-placed-in (Names k) s = record { row = row-small k; answer = four-answers k s }
-placed-in Unknown s = tt
+placed-in (Names k) s five = record { row = row-small k five; answer = four-answers k s }
+placed-in Unknown s five = tt
 
 placed : (l : List ℕ) → PlacedOr (lineOf l)
 unfolding lineOf
-placed l = placed-in (plainQuestion l) (plainText l)
+placed l = placed-in (plainQuestion l) (plainText l) (among-five (questionIn plainHead l))
 
 -- ---- a sum over places
 

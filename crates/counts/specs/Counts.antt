@@ -19,13 +19,14 @@ use Rattle.kinds.specs.declared.answer.Record.the-variants as record-of
 use Rattle.kinds.specs.Kinds.{ruleOf}
 use Rattle.reply.specs.Line.{plainQuestion, plainText}
 
--- "a table of five kinds": the row of each
+-- "a table of five kinds": the row of each. An interval has none, and no line that is asked about here names one
 abbrev pub rowOf : Kind → ℕ
 rowOf kind.Date = 0
 rowOf (kind.Time c) = 1
 rowOf kind.Offset = 2
 rowOf (kind.Stamp c) = 3
 rowOf kind.Duration = 4
+rowOf (kind.Interval c) = 5
 
 -- a line that names a kind: its row, and what the whole reader tells of its text
 pub record Line : Type 0 where
@@ -83,6 +84,7 @@ secondsIn (record-of.Date v) = 0
 secondsIn (record-of.Time v) = 0
 secondsIn (record-of.Offset v) = 0
 secondsIn (record-of.Stamp v) = 0
+secondsIn (record-of.Interval v) = 0
 
 -- "Only durations with answer 0 are added": a refusal carries no record
 abbrev pub secondsTold : Option Record → ℕ

@@ -24,6 +24,7 @@ pub enum Seen {
 // A count of no more lines than this is exact.
 const LARGEST: u64 = 18446744073709551615;
 
+// Intervals have no row: 5 lies outside the table, and no line that is seen names one.
 fn row_of(kind: Kind) -> usize
     ensures { λ r. ⌜ r ≡ rowOf kind ⌝ }
 {
@@ -33,6 +34,7 @@ fn row_of(kind: Kind) -> usize
         Kind::Offset => 2,
         Kind::Stamp(_) => 3,
         Kind::Duration => 4,
+        Kind::Interval(_) => 5,
     }
 }
 
@@ -46,6 +48,7 @@ fn seconds_of(value: Record) -> InSeconds
         Record::Time(_) => InSeconds::Sum(0),
         Record::Offset(_) => InSeconds::Sum(0),
         Record::Stamp(_) => InSeconds::Sum(0),
+        Record::Interval(_) => InSeconds::Sum(0),
     }
 }
 

@@ -5,15 +5,14 @@ use native.Mathlib.Omega.{arith}
 use borrow.Author.Needs.{needs}
 use lib.ListN.{length, drop, length-drop}
 use lib.Seq.{take-all}
-use Rattle.reply.specs.Line.{plainHead}
-use Rattle.reply.proofs.Asked.{names-long-in}
+use Rattle.reply.proofs.Asked.{plain-long}
 use Rattle.counts.specs.Counts.{lineOf}
 use Rattle.counts.proofs.Laws.{ended-wholly}
 use Rattle.counts.proofs.see.Statement.{statement}
 use Rattle.counts.proofs.see.Tie as tie
 
 long : (c : tie.After-known-told) → 2 ≤ length (c .before .before .before .before .before .args .line .now)
-long c = names-long-in plainHead _ _ (sym (c .before .before .before .plain-question .ensures) ∙ c .before .asked .given .1)
+long c = plain-long _ _ (sym (c .before .before .before .plain-question .ensures) ∙ c .before .asked .given .1)
 
 returns : tie.Need-returns
 unfolding lineOf
