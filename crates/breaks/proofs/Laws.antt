@@ -32,6 +32,7 @@ never (kind.Time c) w = w
 never kind.Offset w = w
 never (kind.Stamp c) w = w
 never kind.Duration w = w
+never (kind.Interval c) w = w
 
 module _ (k : Kind) where
   -- ---- accepted, and what the rule finds

@@ -19,6 +19,7 @@ under2019 (kind.Time c) = kind.Time document01
 under2019 kind.Offset = kind.Offset
 under2019 (kind.Stamp c) = kind.Stamp document01
 under2019 kind.Duration = kind.Duration
+under2019 (kind.Interval c) = kind.Interval document01
 
 -- "the whole reader accepts the line": it answers with a record
 pub record Accepts (k : Kind) (s : List ℕ) : Type 0 where

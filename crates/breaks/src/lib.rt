@@ -58,6 +58,7 @@ fn by_2019(kind: Kind) -> Kind
         Kind::Offset => Kind::Offset,
         Kind::Stamp(_) => Kind::Stamp(Choices::DOCUMENT_01),
         Kind::Duration => Kind::Duration,
+        Kind::Interval(_) => Kind::Interval(Choices::DOCUMENT_01),
     }
 }
 

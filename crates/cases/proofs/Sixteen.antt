@@ -45,6 +45,7 @@ minutesTold t = minutesOf (t .value)
     minutesOf (some (record-of.Time d)) = pos 0
     minutesOf (some (record-of.Stamp d)) = pos 0
     minutesOf (some (record-of.Duration d)) = pos 0
+    minutesOf (some (record-of.Interval d)) = pos 0
     minutesOf none = pos 0
 
 computed : Row → Answered
