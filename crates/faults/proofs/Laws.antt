@@ -8,9 +8,10 @@ use lib.ListN.{length, getD, take, length-append, length-replicate}
 use Rattle.kinds.specs.declared.answer.Kind.{Kind}
 use Rattle.kinds.specs.declared.answer.Letter.{Letter}
 use Rattle.kinds.specs.declared.answer.Letter.the-variants.{Names, Unknown}
+use Rattle.kinds.specs.Kinds.{amongFive}
 use Rattle.words.specs.Words.{lettersOf}
 use Rattle.reply.specs.Line.{plainHead, plainQuestion, plainText}
-use Rattle.reply.proofs.Asked.{names-short-in, said-clip}
+use Rattle.reply.proofs.Asked.{plain-short, said-clip}
 use Rattle.text.proofs.Decimals.{digits-short}
 use Rattle.breaks.specs.declared.Reason.{Reason}
 use Rattle.breaks.specs.declared.Reason.the-variants.{Ok, Early, Bad}
@@ -50,12 +51,12 @@ line-short shown l t a = go (plainQuestion l) refl a
     go : (q : Letter) → plainQuestion l ≡ q → WhyTo shown q (plainText l) t → length t ≤ 512
     go (Names k) e a =
         let s = plainText l in
-        rw (a .says) (simp length-append (omega (arith, reason-short (length s) (a .reason), drawing-short shown k s (a .reason) (a .tells), names-short-in plainHead l k e)))
+        rw (a .says) (simp length-append (omega (arith, reason-short (length s) (a .reason), drawing-short shown k s (a .reason) (a .tells), plain-short l k e)))
     go Unknown e a = rw a (omega arith)
 
 -- what is said of the first 205 bytes of a line, or more of them, is said of the line
 pub line-clip : (shown : Bool) (limit : ℕ) (l t : List ℕ) → 205 ≤ limit → WhyLine shown (take limit l) t → WhyLine shown l t
-line-clip shown limit l t = said-clip (λ m. plainHead) (λ m. omega arith) (λ q s. WhyTo shown q s t) (λ s u e. e) limit l
+line-clip shown limit l t = said-clip (λ m. plainHead) (λ m. omega arith) (λ q s. WhyTo shown (amongFive q) s t) (λ s u e. e) limit l
 
 explains-once : (shown : Bool) (k : Kind) (s t u : List ℕ) → Explains shown k s t → Explains shown k s u → t ≡ u
 explains-once shown k s t u a b = a .says ∙ rw (tells-once k s (a .reason) (b .reason) (a .tells) (b .tells)) (sym (b .says))

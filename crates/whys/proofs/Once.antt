@@ -5,7 +5,7 @@ use mathlib.Core.Path.{_≡_, sym, _∙_}
 use Rattle.types.specs.Editions.{document01}
 use Rattle.kinds.specs.declared.answer.Letter.{Letter}
 use Rattle.kinds.specs.declared.answer.Letter.the-variants.{Names, Unknown}
-use Rattle.kinds.specs.Kinds.{letterOf}
+use Rattle.kinds.specs.Kinds.{letterOf, amongFive}
 use Rattle.breaks.proofs.Once.{tells-once}
 use Rattle.whys.specs.Promise.{WhyTellsTo, WhyTells}
 
@@ -16,4 +16,4 @@ why-to-once (Names k) s before a b m n i j =
 why-to-once Unknown s before a b m n i j = (i .1 ∙ sym (j .1), i .0 ∙ sym (j .0))
 
 pub why-once : (letter : ℕ) (s : List ℕ) (before a b m n : ℕ) → WhyTells letter s before a m → WhyTells letter s before b n → (a ≡ b) × (m ≡ n)
-why-once letter = why-to-once (letterOf document01 letter)
+why-once letter = why-to-once (amongFive (letterOf document01 letter))

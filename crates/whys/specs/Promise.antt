@@ -7,7 +7,7 @@ use Rattle.types.specs.Editions.{document01}
 use Rattle.kinds.specs.declared.answer.Kind.{Kind}
 use Rattle.kinds.specs.declared.answer.Letter.{Letter}
 use Rattle.kinds.specs.declared.answer.Letter.the-variants.{Names, Unknown}
-use Rattle.kinds.specs.Kinds.{letterOf}
+use Rattle.kinds.specs.Kinds.{letterOf, amongFive}
 use Rattle.breaks.specs.declared.Reason.{Reason}
 use Rattle.breaks.specs.Breaks.{Tells, handed, numbered}
 
@@ -18,10 +18,10 @@ pub record WhyTold (k : Kind) (s : List ℕ) (n r : ℕ) : Type 0 where
   pub number : r ≡ numbered reason
   pub place : n ≡ handed (length s) reason
 
--- a letter that names no kind: 253, and nothing is written
+-- a letter that names no kind, or the intervals': 253, and nothing is written
 abbrev pub WhyTellsTo : Letter → List ℕ → ℕ → ℕ → ℕ → Type 0
 WhyTellsTo (Names k) s before after r = WhyTold k s after r
 WhyTellsTo Unknown s before after r = (r ≡ 253) × (after ≡ before)
 
 abbrev pub WhyTells : ℕ → List ℕ → ℕ → ℕ → ℕ → Type 0
-WhyTells letter s before after r = WhyTellsTo (letterOf document01 letter) s before after r
+WhyTells letter s before after r = WhyTellsTo (amongFive (letterOf document01 letter)) s before after r

@@ -7,12 +7,13 @@ use types::Choices;
 // No letter of a kind.
 const NO_SUCH_KIND: u32 = 253;
 
-// Says what broke a text of the kind that a letter names, under document 01's choices, and how long the part is that is handed back.
+// Says what broke a text of the kind that a letter names, no interval, under document 01's choices, and how long the part is that is handed
+// back.
 #[no_mangle]
 pub extern "C" fn tirozhbar_why(kind: u8, s: &[u8], place: &mut u64) -> u32
     ensures { λ r. ⌜ WhyTells kind (now (s .entry)) (now (place .entry)) (now (place .exit)) r ⌝ }
 {
-    let named = kinds::kind_of(kind, Choices::DOCUMENT_01);
+    let named = kinds::kind_of(kind, Choices::DOCUMENT_01).among_five();
     match named {
         Letter::Names(kind) => {
             let reason = breaks::why(kind, s);

@@ -9,13 +9,12 @@ use lib.Seq.{take-all}
 use Rattle.text.proofs.Laws.{then-puts}
 use Rattle.words.specs.declared.word.Name.the-variants.{Unknown}
 use Rattle.words.specs.Words.{lettersOf}
-use Rattle.reply.specs.Line.{plainHead}
-use Rattle.reply.proofs.Asked.{names-long-in}
+use Rattle.reply.proofs.Asked.{plain-long}
 use Rattle.faults.proofs.why_line.Statement.{statement}
 use Rattle.faults.proofs.why_line.Tie as tie
 
 long : (c : tie.After-known-told) → 2 ≤ length (c .before .before .before .before .before .before .args .line .now)
-long c = names-long-in plainHead _ _ (sym (c .before .before .before .plain-question .ensures) ∙ c .before .asked .given .1)
+long c = plain-long _ _ (sym (c .before .before .before .plain-question .ensures) ∙ c .before .asked .given .1)
 
 returns : tie.Need-returns
 returns c =
