@@ -73,15 +73,15 @@ told-in l tab ours {old} {new} {n} size p a =
     let same : take n new ≡ take 205 (questionIn tab l) = rw size at (c .front) in
     answers-clip false 205 (questionIn tab l) ours (omega arith) (rw same at a)
 
--- our answer in a buffer of 400 bytes is all there
-ours-in : (l : List ℕ) (tab : ℕ) {old new : List ℕ} {n : ℕ} → length old ≡ 400 → (g : Gives (Told l tab) old 0 new n) → take n new ≡ g .text
+-- our answer in a buffer of 800 bytes is all there
+ours-in : (l : List ℕ) (tab : ℕ) {old new : List ℕ} {n : ℕ} → length old ≡ 800 → (g : Gives (Told l tab) old 0 new n) → take n new ≡ g .text
 ours-in l tab {old} {new} {n} size g =
     let short = answer-short false (questionOf (questionIn tab l)) _ (g .text) (g .answer) in
     let whole = puts-fits (g .puts) (omega arith) in
     rw (whole .1) (take-at (g .text) _ n (omega (arith, whole .0)))
 
 -- so what is compared with what stands behind the tab is our answer
-pub compared-in : (l : List ℕ) (tab : ℕ) {old new out out′ : List ℕ} {n at next : ℕ} → length old ≡ 400 → Gives (Told l tab) old 0 new n
+pub compared-in : (l : List ℕ) (tab : ℕ) {old new out out′ : List ℕ} {n at next : ℕ} → length old ≡ 800 → Gives (Told l tab) old 0 new n
     → Gives (Tells (take n new) (between (tab + 1) (length l) l)) out at out′ next → Gives (Compared l tab) out at out′ next
 compared-in l tab {old} {new} {out} {out′} {n} {at} {next} size g h =
     let all : between (tab + 1) (length l) l ≡ drop (tab + 1) l = take-all (length l - (tab + 1)) (drop (tab + 1) l) (rw (length-drop (tab + 1) l) (omega arith)) in

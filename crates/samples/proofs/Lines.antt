@@ -37,13 +37,13 @@ compares-clip limit l t h =
     (λ m u i j a. record { answer = a .answer; compares = rw (long-open u j) (rw (long-open m i) at (a .compares)); ends = a .ends })
     l
 
-tells-short : (ours theirs t : List ℕ) → length ours ≤ 400 → Tells ours theirs t → length t ≤ 408
+tells-short : (ours theirs t : List ℕ) → length ours ≤ 800 → Tells ours theirs t → length t ≤ 808
 tells-short ours theirs t h (inl a) = rw (a .1) (omega arith)
 tells-short ours theirs t h (inr a) = rw (a .1) (simp length-append (omega arith))
 
-compared-short : (e : Ended) (l t : List ℕ) → ComparedAt e l t → length t ≤ 408
+compared-short : (e : Ended) (l t : List ℕ) → ComparedAt e l t → length t ≤ 808
 compared-short (At tab) l t a = tells-short (a .ours) (theirs tab l) t (answer-short false (questionOf (questionIn tab l)) _ (a .ours) (a .told)) (a .tells)
 compared-short Open l t a = rw a (omega arith)
 
-pub line-short : (l t : List ℕ) → ComparesLine l t → length t ≤ 512
+pub line-short : (l t : List ℕ) → ComparesLine l t → length t ≤ 1024
 line-short l t a = rw (a .ends) (simp length-append (omega (arith, compared-short (tabOf l) l (a .answer) (a .compares))))

@@ -74,7 +74,7 @@ fn put_sampled(line: &[u8], tab: usize, out: &mut [u8], at: usize) -> usize
     requires { ⌜ tab < length (now line) ⌝ }
     ensures { λ r. ⌜ Gives (Compared (now (line .entry)) tab) (now (out .entry)) at (now (out .exit)) r ⌝ }
 {
-    let mut ours = [0u8; 400];
+    let mut ours = [0u8; 800];
     let n = put_ours(line, tab, &mut ours);
     put_compared(&ours[..n], &line[tab + 1..], out, at)
 }
