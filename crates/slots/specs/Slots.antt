@@ -5,7 +5,7 @@ use mathlib.Core.List.{List, [], _∷_, _++_}
 use mathlib.Core.Option.{Option, some, none}
 use mathlib.Core.Path.{_≡_}
 use lib.IntN.{ℤ, pos, negsuc}
-use lib.ListN.{length, drop}
+use lib.ListN.{length, drop, replicate}
 use lib.Dec.{ltb}
 use Rattle.types.specs.declared.Verdict.{Verdict}
 use Rattle.types.specs.declared.Verdict.the-variants.{Settled, Open}
@@ -17,6 +17,11 @@ use Rattle.types.specs.declared.Date.{Date}
 use Rattle.types.specs.declared.Date.the-variants.{YMD, Week, Ordinal}
 use Rattle.types.specs.declared.DateTime.{DateTime}
 use Rattle.types.specs.declared.Duration.{Duration}
+use Rattle.types.specs.declared.Interval.{Interval}
+use Rattle.types.specs.declared.IntervalRange.{IntervalRange}
+use Rattle.types.specs.declared.IntervalRange.the-variants as range
+use Rattle.types.specs.declared.Repetitions.{Repetitions}
+use Rattle.types.specs.declared.Repetitions.the-variants.{Once, Unlimited, Times}
 use Rattle.parser.specs.Reading.{pick}
 use Rattle.parser.specs.Answer.{Told}
 
@@ -54,6 +59,39 @@ abbrev pub durationSlots : Duration → List ℤ
 durationSlots d =
     asSlot (d .years) ∷ asSlot (d .months) ∷ asSlot (d .weeks) ∷ asSlot (d .days) ∷ asSlot (d .hours) ∷ asSlot (d .minutes) ∷ asSlot (d .seconds)
     ∷ []
+
+-- how often an interval repeats: 0 once, 1 `R/`, 2 a number of times; and that number, or 0
+abbrev pub repeatSlots : Repetitions → List ℤ
+repeatSlots Once = pos 0 ∷ pos 0 ∷ []
+repeatSlots Unlimited = pos 1 ∷ pos 0 ∷ []
+repeatSlots (Times n) = pos 2 ∷ pos n ∷ []
+
+abbrev pub shapeOf : IntervalRange → ℕ
+shapeOf (range.Closed a b) = 0
+shapeOf (range.ClosedEnd d b) = 1
+shapeOf (range.ClosedStart a d) = 2
+shapeOf (range.Open d) = 3
+
+-- A side of an interval is laid out as an answer of its kind, with 0 for the count and the verdict, and has as many slots as that of a
+-- date-time, fourteen. A duration leaves five of them 0; where it stands alone, all of the second side are.
+abbrev pub stampSide : DateTime → List ℤ
+stampSide x = pos 0 ∷ pos 0 ∷ dateTimeSlots x
+
+abbrev pub durationSide : Duration → List ℤ
+durationSide d = pos 0 ∷ pos 0 ∷ durationSlots d ++ replicate 5 (pos 0)
+
+abbrev pub noSide : List ℤ
+noSide = replicate 14 (pos 0)
+
+-- in the order of the text
+abbrev pub sideSlots : IntervalRange → List ℤ
+sideSlots (range.Closed a b) = stampSide a ++ stampSide b
+sideSlots (range.ClosedEnd d b) = durationSide d ++ stampSide b
+sideSlots (range.ClosedStart a d) = stampSide a ++ durationSide d
+sideSlots (range.Open d) = durationSide d ++ noSide
+
+abbrev pub intervalSlots : Interval → List ℤ
+intervalSlots x = repeatSlots (x .repetitions) ++ pos (shapeOf (x .range)) ∷ sideSlots (x .range)
 
 -- ---- all the slots of an answer
 

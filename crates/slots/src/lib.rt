@@ -29,7 +29,7 @@ pub const TOO_FEW: u32 = 255;
 pub const NO_SUCH_CHOICE: u32 = 254;
 
 // The greatest count that a slot holds.
-const MOST: usize = 9223372036854775807;
+pub const MOST: usize = 9223372036854775807;
 
 // The choices of a caller who has numbers alone.
 pub enum Chosen {
