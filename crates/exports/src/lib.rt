@@ -8,10 +8,10 @@ ghost use Rattle.date.specs.Rules.{date};
 ghost use Rattle.datetime.specs.Rules.{dateTime};
 ghost use Rattle.duration.specs.Rules.{duration};
 ghost use Rattle.slots.specs.Slots.{offsetSlots, timeSlots, dateSlots, dateTimeSlots, durationSlots};
-ghost use Rattle.slot_readers.specs.Promises.{BeginsIn, EndsIn};
+ghost use Rattle.slot_readers.specs.Promises.{BeginsIn, EndsIn, BeginsUnder, EndsUnder};
 ghost use Rattle.writing.specs.Spelling.{offsetSpelling, timeSpelling, dateSpelling, dateTimeSpelling, durationSpelling};
 ghost use Rattle.slot_writers.specs.Promise.{WritesFrom};
-ghost use Rattle.exports.specs.Promises.{BeginsUnder, EndsUnder, WritesUnder};
+ghost use Rattle.exports.specs.Promises.{WritesUnder};
 use slots::Chosen;
 use slots::NO_SUCH_CHOICE;
 

@@ -1,11 +1,13 @@
 -- A promise under choices: what makes it, by what a number was found to name, and that two outcomes which meet it agree where they do under each.
 use Prim.Native.Nat.{ℕ}
-use mathlib.Core.Path.{_≡_, refl}
+use mathlib.Core.List.{List}
+use mathlib.Core.Path.{_≡_, refl, sym, _∙_}
 use native.Mathlib.Omega.{arith}
+use lib.IntN.{ℤ}
 use Rattle.types.specs.declared.Choices.{Choices}
 use Rattle.slots.specs.declared.Chosen.{Chosen}
 use Rattle.slots.specs.declared.Chosen.the-variants.{Names, Unknown}
-use Rattle.slots.specs.Choosing.{chosen, Under}
+use Rattle.slots.specs.Choosing.{chosen, Unnamed, Under}
 
 never : {a b : Chosen} {c : Choices} → a ≡ b → a ≡ Names c → b ≡ Unknown → ⊥
 never e f g = let z : _≡_ {A = ℕ} 0 1 = cc in omega arith
@@ -23,3 +25,6 @@ under-once {n} {T = T} f g x y = go (chosen n) refl
     go : (o : Chosen) → chosen n ≡ o → T
     go (Names c) e = f c (x .names c e) (y .names c e)
     go Unknown e = g (x .unknown e) (y .unknown e)
+
+pub unnamed-once : {before a b : List ℤ} {q r : ℕ} → Unnamed before a q → Unnamed before b r → (a ≡ b) × (q ≡ r)
+unnamed-once i j = (i .1 ∙ sym (j .1), i .0 ∙ sym (j .0))
