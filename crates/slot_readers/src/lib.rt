@@ -16,7 +16,7 @@ use times::TimeAnswer;
 use types::Choices;
 
 // The verdict slot of a whole reader, which gives none.
-const NO_VERDICT: i64 = -1;
+pub const NO_VERDICT: i64 = -1;
 
 // Reads the offset that the bytes begin with.
 pub fn offset(s: &[u8], slots: &mut [i64]) -> u32
