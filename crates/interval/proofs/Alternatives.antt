@@ -4,7 +4,7 @@ use Prim.Native.Nat.{ℕ}
 use mathlib.Core.List.{List}
 use mathlib.Core.Bool.{Bool, true, false}
 use mathlib.Core.Path.{_≡_, refl, sym}
-use mathlib.Core.Logic.{_⊎_, inl, inr}
+use mathlib.Core.Logic.{inl, inr}
 use lib.Dec.{ltb, eqb}
 use lib.ListN.{length, getD}
 use borrow.Author.Tests.{ltb-false, eqb-true}
@@ -14,17 +14,15 @@ use Rattle.types.specs.declared.Duration.{Duration}
 use Rattle.types.specs.declared.IntervalRange.{IntervalRange}
 use Rattle.types.specs.declared.IntervalRange.the-variants as range
 use Rattle.types.specs.declared.Repetitions.{Repetitions}
-use Rattle.parser.specs.Reading.{Found, no, got, stop, Reader, lit, seq, then, opt, lack, alt, orElse, map, mapFound}
-use Rattle.parser.proofs.Places.{Fails}
+use Rattle.parser.specs.Reading.{Found, no, got, stop, lit, seq, then, opt, lack, alt, orElse, map, mapFound}
 use Rattle.parser.proofs.Alike.{Alike}
 use Rattle.datetime.specs.Rules.{dateTime}
 use Rattle.duration.specs.Rules.{duration}
-use Rattle.interval.specs.Rules.{repetitions, noFormFails, tried, stamp, sides, closed, closedEnd, closedStart, rangeOf, intervalOf, intervalRule}
+use Rattle.interval.specs.Rules.{repetitions, noFormFails, tried, stamp, closed, closedEnd, closedStart, rangeOf, intervalOf, intervalRule}
 use Rattle.interval.specs.Followed.{followed, heldBy}
 use Rattle.interval.specs.Once.{afterStart, stampFirst, orOpen, afterDuration, durationFirst, rangeOnce, intervalOnce, interval}
-use Rattle.interval.proofs.Apart.{stamp-out, followed-out, duration-out}
+use Rattle.interval.proofs.Apart.{stamp-out, duration-out}
 use Rattle.interval.proofs.Beside.{Beside, same, apart, stamp-beside}
-use Rattle.datetime.proofs.Laws.{datetime-item}
 use Rattle.duration.proofs.Laws.{duration-item}
 
 module _ (c : Choices) (s : List ℕ) (at : ℕ) (beside : Beside (heldBy s) s (dateTime c) (followed c) at) where

@@ -28,7 +28,7 @@ use Rattle.datetime.specs.Rules.{dateTime, afterDate}
 use Rattle.datetime.proofs.Laws.{datetime-item}
 use Rattle.duration.specs.Rules.{duration}
 use Rattle.duration.proofs.Whole.{without-p}
-use Rattle.interval.specs.Rules.{noFormFails, tried}
+use Rattle.interval.specs.Rules.{tried}
 use Rattle.interval.specs.Followed.{followed}
 
 -- nothing is found there, whatever follows

@@ -15,10 +15,10 @@ use Rattle.types.specs.declared.Edition.{Edition}
 use Rattle.types.specs.declared.Edition.the-variants.{E2004, E2019}
 use Rattle.types.specs.declared.Reading.{Reading}
 use Rattle.types.specs.declared.Reading.the-variants.{Old, Standard}
-use Rattle.parser.specs.Reading.{Found, no, got, stop, Reader, lit, seq, then, opt, alt, must, map}
+use Rattle.parser.specs.Reading.{Found, no, got, stop, Reader, lit, seq, then, opt, alt, map}
 use Rattle.parser.specs.Digits.{field, digitsMore, lowest, highest, reach, fractionOf}
-use Rattle.parser.specs.Fields.{signed, precededBy, orZero}
-use Rattle.parser.proofs.Places.{stop≢got, from-no, from-stop, made}
+use Rattle.parser.specs.Fields.{precededBy, orZero}
+use Rattle.parser.proofs.Places.{from-no, from-stop, made}
 use Rattle.parser.proofs.Least.{Least, lit-least, map-least, seq-least, field-least}
 use Rattle.parser.proofs.Stops.{StopsBy, lit-stops, field-stops, run-stops, map-stops, must-stops, opt-stops, alt-stops, seq-stops}
 use Rattle.parser.proofs.Unstopped.{Unstopped}
@@ -26,7 +26,7 @@ use Rattle.offset.proofs.Laws.{offset-unstopped}
 use Rattle.time.specs.declared.TimeUnit.{TimeUnit}
 use Rattle.time.specs.declared.TimeUnit.the-variants.{Hour}
 use Rattle.time.specs.Rules.{hourOf, endsDay, zeroIf, numbersIf, unitOf, timeFraction, millisecond, secondMillisecond, minuteSecondMillisecond, behindHour, timeOffset, afterHour}
-use Rattle.date.specs.Rules.{date, year, minus, digitsOfYear}
+use Rattle.date.specs.Rules.{date, year}
 use Rattle.date.specs.Answer.{afterYear}
 use Rattle.date.proofs.Laws.{after-year-takes, date-alike, date-takes}
 use Rattle.datetime.specs.Rules.{stamp}
@@ -35,7 +35,7 @@ use Rattle.duration.specs.Rules.{duration}
 use Rattle.duration.proofs.Laws.{duration-too-few}
 use Rattle.interval.specs.Rules.{repeated, repetitions, noFormFails, tried}
 use Rattle.interval.specs.Rules as rules
-use Rattle.interval.specs.Followed.{zeros, zeroMinute, zeroBehind, zeroTail, tailOf, followedTime, followed}
+use Rattle.interval.specs.Followed.{zeroMinute, zeroBehind, zeroTail, tailOf, followedTime, followed}
 use Rattle.interval.specs.Once.{afterStart, stampFirst, durationFirst, rangeOnce, intervalOnce, interval}
 use Rattle.interval.proofs.Apart.{duration-out}
 use Rattle.interval.proofs.FollowedLaws.{tail-of}

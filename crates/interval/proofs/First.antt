@@ -3,7 +3,7 @@
 use Prim.Native.Nat.{ℕ}
 use mathlib.Core.List.{List}
 use mathlib.Core.Bool.{Bool, true, false, not}
-use mathlib.Core.Path.{_≡_, refl, sym, ap, _∙_}
+use mathlib.Core.Path.{_≡_, refl, sym, _∙_}
 use mathlib.Core.Logic.{_⊎_, inl, inr}
 use Rattle.types.specs.declared.Choices.{Choices}
 use Rattle.types.specs.declared.DateTime.{DateTime}
@@ -12,8 +12,7 @@ use Rattle.parser.specs.Reading.{Found, no, got, stop, Reader, lit, seq, and, o
 use Rattle.parser.proofs.Fields.{true≢false}
 use Rattle.parser.proofs.Places.{no≢got, no≢stop, stop≢got, got-place, got-value}
 use Rattle.parser.proofs.Lawful.{open-behind}
-use Rattle.parser.proofs.Leaves.{lit-definite}
-use Rattle.parser.proofs.Says.{or-false, or-true, says-seq-got, says-seq-no}
+use Rattle.parser.proofs.Says.{or-true, says-seq-got, says-seq-no}
 use Rattle.datetime.specs.Rules.{dateTime}
 use Rattle.interval.specs.Rules.{tried}
 use Rattle.interval.specs.Followed.{followed, heldBy}

@@ -1,36 +1,33 @@
 -- What holds of every interval: the laws of date-times and durations, with a `/` between them that neither takes.
 use Prim.Native.Nat.{ℕ, _+_, _≤_}
 use mathlib.Core.List.{List, [], _∷_, _++_}
-use mathlib.Core.Bool.{Bool, true, false}
-use mathlib.Core.Option.{Option, some, none}
-use mathlib.Core.Path.{_≡_, refl}
+use mathlib.Core.Bool.{Bool, false}
+use mathlib.Core.Option.{some, none}
+use mathlib.Core.Path.{refl}
 use mathlib.Core.Logic.{inl, inr}
 use native.Mathlib.Omega.{arith}
 use borrow.Author.Tests.{eqb-true}
-use lib.ListN.{length}
 use Rattle.types.specs.declared.Choices.{Choices}
 use Rattle.types.specs.declared.DateTime.{DateTime}
 use Rattle.types.specs.declared.Duration.{Duration}
 use Rattle.types.specs.declared.Interval.{Interval}
-use Rattle.types.specs.declared.IntervalRange.{IntervalRange}
 use Rattle.types.specs.declared.IntervalRange.the-variants as range
 use Rattle.parser.specs.Reading.{Found, no, got, stop, Reader, lit, seq, opt, lack, map, mapFound, Says}
 use Rattle.parser.specs.Answer.{begun, Begins, verdictOf}
 use Rattle.parser.specs.Digits.{isDigit}
-use Rattle.parser.proofs.Places.{Bounded, Foreign, opt-skips, map-skips}
+use Rattle.parser.proofs.Places.{Bounded, opt-skips, map-skips}
 use Rattle.parser.proofs.Least.{Least, lit-least, seq-least}
 use Rattle.parser.proofs.Steady.{opt-steady, map-steady}
 use Rattle.parser.proofs.Hopeful.{Anything, Less, HopefulOr, Changes, ends-map, ends-opt}
-use Rattle.parser.proofs.Lawful.{In, byte, lawful-begins, TailOr, Item, ItemOr, widen, item-or, map-item, seq-item, outside-keeps, then-item, alike-item}
+use Rattle.parser.proofs.Lawful.{byte, lawful-begins, TailOr, Item, ItemOr, widen, item-or, map-item, seq-item, outside-keeps, then-item, alike-item}
 use Rattle.parser.proofs.Items.{lit-mark, after-item}
 use Rattle.parser.proofs.Says.{says-map, says-seq-no}
 use Rattle.time.proofs.Laws.{MayStop}
-use Rattle.datetime.specs.Rules.{dateTime}
 use Rattle.datetime.proofs.Laws.{datetime-item}
 use Rattle.datetime.proofs.Laws as of-stamp
 use Rattle.duration.specs.Rules.{duration}
 use Rattle.duration.proofs.Laws.{duration-item}
-use Rattle.interval.specs.Rules.{repeated, orOnce, repetitions, tried, stamp, intervalOf}
+use Rattle.interval.specs.Rules.{orOnce, repetitions, tried, stamp}
 use Rattle.interval.specs.Followed.{followed}
 use Rattle.interval.specs.Once.{afterStart, stampFirst, orOpen, afterDuration, durationFirst, rangeOnce, intervalOnce, interval}
 use Rattle.interval.proofs.Tried.{tried-item}

@@ -10,9 +10,9 @@ use lib.ListN.{length}
 use borrow.Author.Tests.{eqb-true}
 use Rattle.types.specs.declared.Repetitions.{Repetitions}
 use Rattle.parser.specs.Reading.{no, got, Reader, lit, seq, opt, map}
-use Rattle.parser.specs.Digits.{isDigit, number, atMost}
+use Rattle.parser.specs.Digits.{number, atMost}
 use Rattle.parser.proofs.Stable.{most-growing}
-use Rattle.parser.proofs.Places.{Fails, Foreign, run-fails, run-foreign, opt-foreign, lit-fails}
+use Rattle.parser.proofs.Places.{Fails, Foreign, run-fails, run-foreign, opt-foreign}
 use Rattle.parser.proofs.Stops.{too-big}
 use Rattle.parser.proofs.Steady.{Steady, opt-steady, map-steady, run-steady}
 use Rattle.parser.proofs.Hopeful.{Ends, AnyByte, Anything, never-stops, Keeps, foreign-keeps, ends-weaken, ends-map, ends-opt, ends-then-starts, ends-after, left-out-starts}

@@ -6,9 +6,9 @@ use mathlib.Core.Option.{Option, some, none}
 use mathlib.Core.Path.{_≡_, refl, sym, ap, _∙_}
 use mathlib.Core.Logic.{_⊎_, inl, inr}
 use native.Mathlib.Omega.{arith}
-use lib.Dec.{ltb, leb, eqb}
-use lib.ListN.{length, getD}
-use borrow.Author.Tests.{ltb-true, ltb-false, leb-true, leb-false, le-leb, lt-leb, eqb-true}
+use lib.Dec.{leb}
+use lib.ListN.{length}
+use borrow.Author.Tests.{leb-true, leb-false, le-leb, lt-leb}
 use Rattle.types.specs.declared.Choices.{Choices}
 use Rattle.types.specs.declared.DateTime.{DateTime}
 use Rattle.types.specs.declared.Duration.{Duration}
@@ -17,7 +17,7 @@ use Rattle.types.specs.declared.Repetitions.{Repetitions}
 use Rattle.parser.specs.Reading.{Found, no, got, stop, Reader, lit, seq, opt, lack, map, mapFound, pick, and, Says}
 use Rattle.parser.specs.Digits.{number, numberFrom, runAt, ofRun, atTheEnd, atMost, limit, run, runAs}
 use Rattle.parser.specs.Read.{placeAfter}
-use Rattle.parser.proofs.Fields.{true≢false, and-right}
+use Rattle.parser.proofs.Fields.{and-right}
 use Rattle.parser.proofs.Places.{no≢got, no≢stop, stop≢got, got-place, got-value, lit-fails, map-fails, run-fails}
 use Rattle.parser.proofs.RunLeaves.{run-open}
 use Rattle.parser.proofs.General.{lit-eager, map-eager}

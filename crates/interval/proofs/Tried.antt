@@ -1,14 +1,12 @@
 -- What is tried has the laws of the rule that it tries: a no form that ended the reading fails in its place, and all else stays.
 use Prim.Native.Nat.{ℕ}
-use mathlib.Core.List.{List, _∷_, _++_}
+use mathlib.Core.List.{List, _++_}
 use mathlib.Core.Bool.{Bool, true, false}
-use mathlib.Core.Path.{_≡_, refl, sym, _∙_}
+use mathlib.Core.Path.{_≡_}
 use mathlib.Core.Logic.{inl, inr}
 use lib.Dec.{eqb}
-use lib.ListN.{length}
 use Rattle.parser.specs.Reading.{Found, no, got, stop, Reader, pick}
-use Rattle.parser.proofs.Places.{no≢stop, from-no, from-stop, picked, made, stop≢got}
-use Rattle.parser.proofs.Stops.{OneOrTwo}
+use Rattle.parser.proofs.Places.{no≢stop, from-no, from-stop, picked}
 use Rattle.parser.proofs.Steady.{Steady}
 use Rattle.parser.proofs.Hopeful.{Ends, Less, Changes}
 use Rattle.parser.proofs.Lawful.{ItemOr}

@@ -7,7 +7,6 @@ use mathlib.Core.Bool.{Bool, true, false}
 use lib.ListN.{getD}
 use lib.Dec.{eqb}
 use Rattle.types.specs.declared.Choices.{Choices}
-use Rattle.types.specs.declared.Date.{Date}
 use Rattle.types.specs.declared.DateTime.{DateTime}
 use Rattle.types.specs.declared.Reading.{Reading}
 use Rattle.types.specs.declared.Reading.the-variants.{Old, Standard}

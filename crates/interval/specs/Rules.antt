@@ -4,7 +4,6 @@ use mathlib.Core.Option.{Option, some, none}
 use lib.Dec.{eqb}
 use Rattle.types.specs.declared.Choices.{Choices}
 use Rattle.types.specs.declared.DateTime.{DateTime}
-use Rattle.types.specs.declared.Duration.{Duration}
 use Rattle.types.specs.declared.Interval.{Interval}
 use Rattle.types.specs.declared.IntervalRange.{IntervalRange}
 use Rattle.types.specs.declared.IntervalRange.the-variants as range

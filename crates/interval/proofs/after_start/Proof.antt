@@ -1,12 +1,11 @@
 -- By the first byte: one of the two is out.
-use mathlib.Core.Bool.{true, false}
+use mathlib.Core.Bool.{false}
 use mathlib.Core.Path.{sym}
 use Rattle.types.specs.declared.IntervalRange.the-variants.{Closed, ClosedStart}
 use Rattle.parser.specs.Reading.{no, map}
 use Rattle.parser.proofs.Says.{says-map, says-alt-no}
-use Rattle.datetime.specs.Rules.{dateTime}
 use Rattle.duration.specs.Rules.{duration}
-use Rattle.interval.specs.Rules.{stamp, tried}
+use Rattle.interval.specs.Rules.{stamp}
 use Rattle.interval.specs.Once.{afterStart}
 use Rattle.interval.proofs.Apart.{lit-there, lit-not, lit-past, says-alt-out, tried-out, stamp-out, duration-out}
 use Rattle.interval.proofs.Laws.{after-start-item}

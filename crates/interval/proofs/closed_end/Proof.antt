@@ -4,7 +4,7 @@ use Rattle.types.specs.declared.IntervalRange.the-variants.{Closed}
 use Rattle.parser.specs.Reading.{no, stop}
 use Rattle.parser.proofs.Says.{says-map}
 use Rattle.datetime.specs.Rules.{dateTime}
-use Rattle.interval.specs.Rules.{stamp, tried}
+use Rattle.interval.specs.Rules.{stamp}
 use Rattle.interval.proofs.Telling.{says-tried}
 use borrow.Author.Needs.{needs}
 use Rattle.interval.proofs.closed_end.Statement.{statement}

@@ -1,5 +1,5 @@
 -- A repeat, or none, and the sides.
-use mathlib.Core.Bool.{true, false}
+use mathlib.Core.Bool.{false}
 use mathlib.Core.Option.{some, none}
 use mathlib.Core.Path.{refl}
 use Rattle.parser.specs.Reading.{no, got}

@@ -1,5 +1,5 @@
 -- By the first byte: one of the two is out.
-use mathlib.Core.Bool.{true, false}
+use mathlib.Core.Bool.{false}
 use mathlib.Core.Path.{sym}
 use Rattle.parser.specs.Reading.{lit, seq}
 use Rattle.parser.proofs.Says.{says-seq-no, says-alt-no}

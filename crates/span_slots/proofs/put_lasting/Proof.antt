@@ -1,5 +1,5 @@
 -- A duration's answer in the part that is lent, and zeros behind it.
-use mathlib.Core.List.{[], _∷_}
+use mathlib.Core.List.{_∷_}
 use mathlib.Core.Path.{refl}
 use native.Mathlib.Omega.{arith}
 use lib.IntN.{pos}
