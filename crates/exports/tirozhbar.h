@@ -1,15 +1,17 @@
-/* tirozhbar.h: ISO 8601 offsets, times, dates, date-times and durations, read from bytes and written to them, and what broke a text.
+/* tirozhbar.h: ISO 8601 offsets, times, dates, date-times and durations, read from bytes and written to them; intervals, read from bytes; and
+ * what broke a text.
  *
- * Link with libexports.a, which `rt staticlib exports` writes, and for tirozhbar_why with libwhys.a, which `rt staticlib whys` writes. The
- * code is proved to do what is said here on every input, where the bytes at TEXT and the slots lie apart. A reader reads the LENGTH bytes
- * at TEXT and writes at most the slots that its kind has; a writer reads those slots, and writes slot 0 and at most the LENGTH bytes at
- * TEXT. No function keeps a state or calls anything.
+ * Link with libexports.a, which `rt staticlib exports` writes; for tirozhbar_interval and tirozhbar_parse_interval with libspans.a, which
+ * `rt staticlib spans` writes, and for tirozhbar_why with libwhys.a, which `rt staticlib whys` writes. The code is proved to do what is said
+ * here on every input, where the bytes at TEXT and the slots lie apart. A reader reads the LENGTH bytes at TEXT and writes at most the slots
+ * that its kind has; a writer reads those slots, and writes slot 0 and at most the LENGTH bytes at TEXT. No function keeps a state or calls
+ * anything.
  *
  * A reader fills an array of ROOM slots and returns a number:
  *
  *     TIROZHBAR_RECORD            0  a record
  *     TIROZHBAR_NO_FORM           1  the bytes begin with no such form
- *     TIROZHBAR_TOO_BIG           2  a number of a duration is above 18446744073709551615
+ *     TIROZHBAR_TOO_BIG           2  a number of a duration is above 18446744073709551615, or how often an interval repeats above 4294967295
  *     TIROZHBAR_LEFT_OVER         3  tirozhbar_parse_* alone: a record, but bytes are left over
  *     TIROZHBAR_NO_SUCH_CHOICE  254  CHOICES names none; nothing was written
  *     TIROZHBAR_TOO_FEW         255  ROOM is below the kind's number of slots; nothing was written
@@ -20,8 +22,8 @@
  *     TIROZHBAR_OPEN       1  some longer text gets another
  *     TIROZHBAR_NO_VERDICT -1 always, after tirozhbar_parse_*
  *
- * Where it is open, another answer is not far: with some 2 bytes behind it, or fewer (offsets and times), 3 (durations), 7 (dates) or 10
- * (date-times), the text gets one. These numbers are the least that serve every text.
+ * Where it is open, another answer is not far: with some 2 bytes behind it, or fewer (offsets and times), 3 (durations), 7 (dates), 10
+ * (date-times) or 14 (intervals), the text gets one. These numbers are the least that serve every text.
  *
  * The record stands from slot 2 on. After anything but 0 the slots from 2 on are left as they were, and so always are the slots past
  * the kind's number.
@@ -37,7 +39,8 @@
  *
  * After anything but 0 all bytes at TEXT are as they were, and the bytes behind the text always are. No 0 byte is put behind it.
  *
- * Times and date-times are read and written under CHOICES, a number that names the edition of ISO 8601 and what a fraction counts as:
+ * Times and date-times are read and written, and intervals read, under CHOICES, a number that names the edition of ISO 8601 and what a
+ * fraction counts as:
  *
  *     TIROZHBAR_2019              0  hours are 00 to 23
  *     TIROZHBAR_2004              1  so is 24, the end of a day
@@ -149,6 +152,28 @@ enum {
     TIROZHBAR_DURATION_SLOTS = 9
 };
 
+/* An interval. REPEAT says how often: once, where no R stands in front; without a number, after R/; or TIMES times, after R5/. In the other
+ * two cases TIMES is 0. SHAPE says what the sides are, in the order of the text. A side has the slots of its kind, from FIRST and from SECOND
+ * on: the first side's year is slots[TIROZHBAR_INTERVAL_FIRST + TIROZHBAR_DATETIME_YEAR]. Its own COUNT and VERDICT are 0, and so are the
+ * slots behind a duration's, and all of the second side where a duration stands alone. So a writer takes a side from where it stands, as
+ * tirozhbar_write_datetime(slots + TIROZHBAR_INTERVAL_SECOND, TIROZHBAR_DATETIME_SLOTS, ..) does, and leaves the text's length in the side's
+ * own COUNT. */
+enum { TIROZHBAR_ONCE = 0, TIROZHBAR_UNLIMITED = 1, TIROZHBAR_TIMES = 2 };
+enum {
+    TIROZHBAR_DATETIME_DATETIME = 0,
+    TIROZHBAR_DURATION_DATETIME = 1,
+    TIROZHBAR_DATETIME_DURATION = 2,
+    TIROZHBAR_DURATION_ALONE = 3
+};
+enum {
+    TIROZHBAR_INTERVAL_REPEAT = 2,
+    TIROZHBAR_INTERVAL_TIMES = 3,
+    TIROZHBAR_INTERVAL_SHAPE = 4,
+    TIROZHBAR_INTERVAL_FIRST = 5,
+    TIROZHBAR_INTERVAL_SECOND = 19,
+    TIROZHBAR_INTERVAL_SLOTS = 33
+};
+
 /* The offset that the text begins with: Z, or a sign, hours and perhaps minutes. 4 slots. */
 uint32_t tirozhbar_offset(const uint8_t *text, size_t length, int64_t *slots, size_t room);
 /* A text that is one offset from its first byte to its last. 4 slots. */
@@ -174,7 +199,13 @@ uint32_t tirozhbar_duration(const uint8_t *text, size_t length, int64_t *slots, 
 /* A text that is one duration from its first byte to its last. 9 slots. */
 uint32_t tirozhbar_parse_duration(const uint8_t *text, size_t length, int64_t *slots, size_t room);
 
-/* The longest spelling of each kind, in bytes. */
+/* The interval that the text begins with: date-time/date-time, duration/date-time, date-time/duration or a duration alone, with R/ or R5/ in
+ * front or not. 33 slots. */
+uint32_t tirozhbar_interval(const uint8_t *text, size_t length, int64_t *slots, size_t room, uint32_t choices);
+/* A text that is one interval from its first byte to its last. 33 slots. */
+uint32_t tirozhbar_parse_interval(const uint8_t *text, size_t length, int64_t *slots, size_t room, uint32_t choices);
+
+/* The longest spelling of each kind that is written, in bytes. */
 enum {
     TIROZHBAR_OFFSET_LONGEST = 6,
     TIROZHBAR_TIME_LONGEST = 24,
