@@ -1,6 +1,6 @@
 // The readers of intervals into slots, as slot_readers has those of the other kinds, and the same for C. A library of its own: what an interval
-// is made of may begin at any byte, and the compiler makes less of a reader that is asked at the first one alone (docs/DECISIONS.md). The
-// layout of the slots stands in slots' specs/Slots.antt, and for C in exports' tirozhbar.h.
+// is made of may begin at any byte, and the compiler makes shorter code of a reader that is asked at the first byte alone (docs/DECISIONS.md).
+// The layout of the slots stands in slots' specs/Slots.antt, and for C in exports' tirozhbar.h.
 ghost use Rattle.interval.specs.Once.{interval};
 ghost use Rattle.slots.specs.Slots.{intervalSlots};
 ghost use Rattle.slot_readers.specs.Promises.{BeginsIn, EndsIn, BeginsUnder, EndsUnder};
@@ -52,7 +52,7 @@ pub fn parse_interval(s: &[u8], slots: &mut [i64], choices: Choices) -> u32
     }
 }
 
-// The first of these for C; a number names the choices.
+// Reads the interval that the bytes begin with, for C: a number names the choices.
 #[no_mangle]
 pub extern "C" fn tirozhbar_interval(s: &[u8], slots: &mut [i64], choices: u32) -> u32
     ensures { λ r. ⌜ BeginsUnder 33 14 interval intervalSlots choices (now (s .entry)) (now (slots .entry)) (now (slots .exit)) r ⌝ }
@@ -64,7 +64,7 @@ pub extern "C" fn tirozhbar_interval(s: &[u8], slots: &mut [i64], choices: u32) 
     }
 }
 
-// The second.
+// Reads bytes that are one interval from the first to the last, for C.
 #[no_mangle]
 pub extern "C" fn tirozhbar_parse_interval(s: &[u8], slots: &mut [i64], choices: u32) -> u32
     ensures { λ r. ⌜ EndsUnder 33 interval intervalSlots choices (now (s .entry)) (now (slots .entry)) (now (slots .exit)) r ⌝ }
