@@ -8,16 +8,19 @@ ghost use Rattle.shortening.specs.Sides.{startsZeros, hasSides};
 ghost use Rattle.arriving.specs.Keeping.{firstMark, dropsZeros, zeroMark, pointMark, nextMark, joinable, joinsTo};
 use kinds::answer::Kind;
 
-// The tenth digit behind a comma or point. From `ZEROS` on zeros are dropped: behind no digit, and behind a 0 that no digit stands before. A
-// side begins.
+// The tenth digit behind a comma or point.
 const TENTH: u8 = 11;
 
+// From here on zeros are dropped; this one: some other digit stands before.
 const ZEROS: u8 = 16;
 
+// No digit stands before.
 const FRESH: u8 = 17;
 
+// A 0 that no digit stands before.
 const ZERO: u8 = 27;
 
+// A side begins.
 const SIDE: u8 = 32;
 
 pub fn has_sides(kind: Kind) -> bool

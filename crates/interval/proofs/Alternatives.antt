@@ -15,6 +15,7 @@ use Rattle.types.specs.declared.IntervalRange.{IntervalRange}
 use Rattle.types.specs.declared.IntervalRange.the-variants as range
 use Rattle.types.specs.declared.Repetitions.{Repetitions}
 use Rattle.parser.specs.Reading.{Found, no, got, stop, lit, seq, then, opt, lack, alt, orElse, map, mapFound}
+use Rattle.parser.proofs.General.{or-else-no}
 use Rattle.parser.proofs.Alike.{Alike}
 use Rattle.datetime.specs.Rules.{dateTime}
 use Rattle.duration.specs.Rules.{duration}
@@ -74,11 +75,6 @@ module _ (c : Choices) (s : List ℕ) (at : ℕ) (beside : Beside (heldBy s) s (
 
   -- ---- the second and the third change places: one of the two finds nothing
 
-  or-nothing : {A : Type 0} (x : Found A) → orElse x no ≡ x
-  or-nothing no = refl
-  or-nothing (stop r) = refl
-  or-nothing (got a n) = refl
-
   module _ (e : duration .reads s at ≡ no) where
     not-alone : map range.Open duration .reads s at ≡ no
     unfolding map
@@ -90,7 +86,7 @@ module _ (c : Choices) (s : List ℕ) (at : ℕ) (beside : Beside (heldBy s) s (
 
     no-duration : rangeOf c .reads s at ≡ rangeOnce c .reads s at
     unfolding rangeOf rangeOnce alt
-    no-duration = rw (← stamp-once, ← duration-once, not-before, not-alone, or-nothing (closedStart c .reads s at), or-nothing (orElse (closed c .reads s at) (closedStart c .reads s at)))
+    no-duration = rw (← stamp-once, ← duration-once, not-before, not-alone, or-else-no (closedStart c .reads s at), or-else-no (orElse (closed c .reads s at) (closedStart c .reads s at)))
 
   module _ (e : dateTime c .reads s at ≡ no) where
     not-two : closed c .reads s at ≡ no

@@ -9,7 +9,7 @@ use Rattle.types.specs.declared.Choices.{Choices}
 use Rattle.types.specs.declared.DateTime.{DateTime}
 use Rattle.types.specs.declared.IntervalRange.{IntervalRange}
 use Rattle.parser.specs.Reading.{Found, no, got, stop, Reader, lit, seq, and, or, Says}
-use Rattle.parser.proofs.Fields.{true≢false}
+use Rattle.parser.proofs.Fields.{true≢false, and-right}
 use Rattle.parser.proofs.Places.{no≢got, no≢stop, stop≢got, got-place, got-value}
 use Rattle.parser.proofs.Lawful.{open-behind}
 use Rattle.parser.proofs.Says.{or-true, says-seq-got, says-seq-no}
@@ -64,16 +64,12 @@ module _ (c : Choices) (s : List ℕ) (at : ℕ) where
       as-told true g = rw (g refl)
       as-told false g = refl
 
-      and-false : (m : Bool) → false ≡ and m false
-      and-false true = refl
-      and-false false = refl
-
       go : Beside (heldBy s) s (dateTime c) (followed c) at → Says (stampFirst c) s at no (and m (not (heldBy s a n)))
       go (same e o free) = rw (as-told m (λ t. free a n (sym (h .found)) (sym (h .more) ∙ t))) at (followed-got a n m false no (record { found = h .found ∙ sym e; more = h .more ∙ sym o }) none-there)
       go (apart b j e o none (inl i)) = absurd (stop≢got (sym i ∙ sym (h .found)))
       go (apart b j e o none (inr i)) =
           let held : heldBy s a n ≡ true = rw (← got-value (sym (i .0) ∙ sym (h .found)), ← got-place (sym (i .0) ∙ sym (h .found))) (i .1) in
-          rw (held, ← and-false m) (followed-got b j false false no (record { found = sym e; more = sym o }) (no-slash b j none))
+          rw (held, and-right m refl) (followed-got b j false false no (record { found = sym e; more = sym o }) (no-slash b j none))
 
   -- the input ends there
   pub end-first : (a : DateTime) (n : ℕ) (m : Bool) → Says (dateTime c) s at (got a n) m → Says (lit 47) s n no true → Says (stampFirst c) s at no true

@@ -8,8 +8,7 @@ use mathlib.Core.Logic.{_⊎_, inl, inr}
 use native.Mathlib.Omega.{arith}
 use lib.ListN.{length}
 use borrow.Author.Tests.{eqb-true}
-use Rattle.types.specs.declared.Repetitions.{Repetitions}
-use Rattle.parser.specs.Reading.{no, got, Reader, lit, seq, opt, map}
+use Rattle.parser.specs.Reading.{no, got, Reader, seq, opt, map}
 use Rattle.parser.specs.Digits.{number, atMost}
 use Rattle.parser.proofs.Stable.{most-growing}
 use Rattle.parser.proofs.Places.{Fails, Foreign, run-fails, run-foreign, opt-foreign}
@@ -19,7 +18,7 @@ use Rattle.parser.proofs.Hopeful.{Ends, AnyByte, Anything, never-stops, Keeps, 
 use Rattle.parser.proofs.RunLeaves.{run-eager, run-open}
 use Rattle.parser.proofs.Lawful.{In, byte, Outside, outside-digit, most, seq-lawful, Item, ItemOr, map-item}
 use Rattle.parser.proofs.Items.{lit-mark, after-item}
-use Rattle.interval.specs.Rules.{repeatRun, timesOf, digitsAndSlash, repeated}
+use Rattle.interval.specs.Rules.{repeatLimit, repeatRun, slashed, digitsAndSlash, repeated}
 
 -- what a repeat takes beside digits
 abbrev pub bytes : List ℕ
@@ -29,15 +28,15 @@ bytes = 82 ∷ 47 ∷ []
 
 run-steady-here : Steady (Outside bytes) repeatRun
 unfolding repeatRun
-run-steady-here = run-steady number (most-growing 4294967295) too-big (outside-digit bytes)
+run-steady-here = run-steady number (most-growing repeatLimit) too-big (outside-digit bytes)
 
 run-fails-here : Fails repeatRun
 unfolding repeatRun
-run-fails-here = run-fails number (atMost 4294967295) 2
+run-fails-here = run-fails number (atMost repeatLimit) 2
 
 slash-foreign : Foreign (In (byte 47)) repeatRun
 unfolding repeatRun
-slash-foreign = run-foreign number (atMost 4294967295) 2 (In (byte 47)) (λ b e. rw (eqb-true b 47 e))
+slash-foreign = run-foreign number (atMost repeatLimit) 2 (In (byte 47)) (λ b e. rw (eqb-true b 47 e))
 
 absent : {A : Type 0} (p : Reader A) (s : List ℕ) (at : ℕ) → p .reads s at ≡ no → opt p .reads s at ≡ got none at
 unfolding opt
@@ -50,14 +49,11 @@ given p s at a n e = rw e
 -- where it is open it has been read to the end, or is absent there
 run-read : (s : List ℕ) (at : ℕ) → at ≤ length s → repeatRun .more s at ≡ true → (o : Option ℕ) × (opt repeatRun .reads s at ≡ got o (length s))
 unfolding repeatRun
-run-read s at le h = go (run-open number (atMost 4294967295) 2 s at le h)
+run-read s at le h = go (run-open number (atMost repeatLimit) 2 s at le h)
   where
     go : (length s ≡ at) ⊎ ((v : ℕ) × (repeatRun .reads s at ≡ got v (length s))) → (o : Option ℕ) × (opt repeatRun .reads s at ≡ got o (length s))
     go (inl here) = (none, rw here (absent repeatRun s at (run-fails-here s at (omega arith))))
     go (inr (v, e)) = (some v, given repeatRun s at v (length s) e)
-
-abbrev slashed : Option ℕ → Reader Repetitions
-slashed n = map (λ _. timesOf n) (lit 47)
 
 slash-item : (n : Option ℕ) → Item bytes (byte 47) 1 1 Anything (slashed n)
 slash-item n = map-item _ (lit-mark 47 refl .item)
@@ -70,7 +66,7 @@ unfolding seq opt repeatRun
 digits-item = record {
   lawful = seq-lawful (opt-steady run-steady-here) (λ s at le h. let o = run-read s at le h in ends-weaken 1 AnyByte Anything (omega arith) (λ c x. tt) (λ a f. f) (ends-after (opt repeatRun) slashed s at le run-keeps (o .0) (o .1) (slash-item (o .0) .starts))) (λ n. slash-item n .lawful);
   fails = λ s at h. rw (run-fails-here s at h, slash-item none .fails s at h);
-  eager = λ s at h. rw (run-eager number (most-growing 4294967295) 2 s at h);
+  eager = λ s at h. rw (run-eager number (most-growing repeatLimit) 2 s at h);
   starts = left-out-starts (In (byte 47)) repeatRun slashed run-fails-here slash-foreign (slash-item none .starts);
 }
 

@@ -14,7 +14,7 @@ use Rattle.types.specs.declared.DateTime.{DateTime}
 use Rattle.types.specs.declared.Duration.{Duration}
 use Rattle.types.specs.declared.IntervalRange.the-variants.{Open}
 use Rattle.types.specs.declared.Repetitions.{Repetitions}
-use Rattle.parser.specs.Reading.{Found, no, got, stop, Reader, lit, seq, opt, lack, map, mapFound, pick, and, Says}
+use Rattle.parser.specs.Reading.{Found, no, got, stop, Reader, lit, seq, opt, lack, mapFound, pick, and, Says}
 use Rattle.parser.specs.Digits.{number, numberFrom, runAt, ofRun, atTheEnd, atMost, limit, run, runAs}
 use Rattle.parser.specs.Read.{placeAfter}
 use Rattle.parser.proofs.Fields.{and-right}
@@ -23,7 +23,7 @@ use Rattle.parser.proofs.RunLeaves.{run-open}
 use Rattle.parser.proofs.General.{lit-eager, map-eager}
 use Rattle.parser.proofs.Says.{says-map, says-seq-got, says-seq-no, says-seq-stop, says-opt}
 use Rattle.datetime.specs.Rules.{dateTime}
-use Rattle.interval.specs.Rules.{repeatRun, timesOf, digitsAndSlash, noFormFails, tried, stamp}
+use Rattle.interval.specs.Rules.{repeatLimit, repeatRun, timesOf, slashed, digitsAndSlash, noFormFails, tried, stamp}
 use Rattle.interval.specs.Once.{orOpen, afterDuration}
 
 pub says-tried : {A : Type 0} (p : Reader A) (s : List ℕ) (at : ℕ) (f : Found A) (m : Bool) → Says p s at f m → Says (tried p) s at (noFormFails f) m
@@ -43,47 +43,39 @@ module _ (c : Choices) (d : Duration) (s : List ℕ) (at : ℕ) where
   unfolding afterDuration
   none-behind m mark = says-map (opt (seq (lit 47) (λ _. stamp c))) s at (orOpen d) (got none at) m (says-opt (seq (lit 47) (λ _. stamp c)) s at no m (says-seq-no (lit 47) s at (λ _. stamp c) m mark))
 
--- where it stands the duration was settled
-pub settled : (b : Bool) {f : Found Unit} {n : ℕ} → (b ≡ true → f ≡ no) → got tt n ≡ f → b ≡ false
-settled true h e = absurd (no≢got (sym (h refl) ∙ sym e))
-settled false h e = refl
-
 -- ---- the run behind `R` is a duration's with a smaller limit
 
 module _ (s : List ℕ) (at : ℕ) where
-  abbrev most : ℕ
-  most = 4294967295
-
   -- what some digits are found as, where they may be that number or not
   abbrev told : List ℕ → Bool → Found ℕ
   told d u = ofRun d no (pick u (got (number d) (at + length d)) (stop 2))
 
-  pub run-small : (v n : ℕ) (m : Bool) → v ≤ 4294967295 → Says run s at (got v n) m → Says repeatRun s at (got v n) m
+  pub run-small : (v n : ℕ) (m : Bool) → v ≤ repeatLimit → Says run s at (got v n) m → Says repeatRun s at (got v n) m
   unfolding repeatRun runAs
   run-small v n m few h = let r = go (runAt s at) (atMost limit (number (runAt s at))) (h .found) (h .more) in record { found = r .0; more = r .1 }
     where
-      go : (d : List ℕ) (u : Bool) → got v n ≡ told d u → m ≡ and (atTheEnd s at) u → (got v n ≡ told d (atMost most (number d))) × (m ≡ and (atTheEnd s at) (atMost most (number d)))
+      go : (d : List ℕ) (u : Bool) → got v n ≡ told d u → m ≡ and (atTheEnd s at) u → (got v n ≡ told d (atMost repeatLimit (number d))) × (m ≡ and (atTheEnd s at) (atMost repeatLimit (number d)))
       go [] u e g = absurd (no≢got (sym e))
       go (b ∷ d) false e g = absurd (stop≢got (sym e))
-      go (b ∷ d) true e g = let small : atMost most (number (b ∷ d)) ≡ true = rw (← got-value e) (le-leb v most few) in (rw small e, rw small g)
+      go (b ∷ d) true e g = let small : atMost repeatLimit (number (b ∷ d)) ≡ true = rw (← got-value e) (le-leb v repeatLimit few) in (rw small e, rw small g)
 
-  pub run-large : (v n : ℕ) (m : Bool) → 4294967295 < v → Says run s at (got v n) m → Says repeatRun s at (stop 2) false
+  pub run-large : (v n : ℕ) (m : Bool) → repeatLimit < v → Says run s at (got v n) m → Says repeatRun s at (stop 2) false
   unfolding repeatRun runAs
   run-large v n m many h = let r = go (runAt s at) (atMost limit (number (runAt s at))) (h .found) in record { found = r .0; more = r .1 }
     where
-      go : (d : List ℕ) (u : Bool) → got v n ≡ told d u → (stop 2 ≡ told d (atMost most (number d))) × (false ≡ and (atTheEnd s at) (atMost most (number d)))
+      go : (d : List ℕ) (u : Bool) → got v n ≡ told d u → (stop 2 ≡ told d (atMost repeatLimit (number d))) × (false ≡ and (atTheEnd s at) (atMost repeatLimit (number d)))
       go [] u e = absurd (no≢got (sym e))
       go (b ∷ d) false e = absurd (stop≢got (sym e))
-      go (b ∷ d) true e = let big : atMost most (number (b ∷ d)) ≡ false = rw (← got-value e) (lt-leb v most many) in (rw big, sym (and-right (atTheEnd s at) big))
+      go (b ∷ d) true e = let big : atMost repeatLimit (number (b ∷ d)) ≡ false = rw (← got-value e) (lt-leb v repeatLimit many) in (rw big, sym (and-right (atTheEnd s at) big))
 
   pub run-past : (m : Bool) → Says run s at (stop 2) m → Says repeatRun s at (stop 2) false
   unfolding repeatRun runAs
   run-past m h = let r = go (runAt s at) (atMost limit (number (runAt s at))) refl (h .found) in record { found = r .0; more = r .1 }
     where
-      go : (d : List ℕ) (u : Bool) → atMost limit (number d) ≡ u → stop 2 ≡ told d u → (stop 2 ≡ told d (atMost most (number d))) × (false ≡ and (atTheEnd s at) (atMost most (number d)))
+      go : (d : List ℕ) (u : Bool) → atMost limit (number d) ≡ u → stop 2 ≡ told d u → (stop 2 ≡ told d (atMost repeatLimit (number d))) × (false ≡ and (atTheEnd s at) (atMost repeatLimit (number d)))
       go [] u i e = absurd (no≢stop (sym e))
       go (b ∷ d) true i e = absurd (stop≢got e)
-      go (b ∷ d) false i e = let big : atMost most (number (b ∷ d)) ≡ false = lt-leb (number (b ∷ d)) most (omega (arith, leb-false (number (b ∷ d)) limit i)) in (rw big, sym (and-right (atTheEnd s at) big))
+      go (b ∷ d) false i e = let big : atMost repeatLimit (number (b ∷ d)) ≡ false = lt-leb (number (b ∷ d)) repeatLimit (omega (arith, leb-false (number (b ∷ d)) limit i)) in (rw big, sym (and-right (atTheEnd s at) big))
 
   pub run-none : (m : Bool) → Says run s at no m → Says repeatRun s at no m
   unfolding repeatRun runAs numberFrom
@@ -93,7 +85,7 @@ module _ (s : List ℕ) (at : ℕ) where
       some v k true e = no≢got e
       some v k false e = no≢stop e
 
-      go : (d : List ℕ) → no ≡ told d (atMost limit (number d)) → m ≡ and (atTheEnd s at) (atMost limit (number d)) → (no ≡ told d (atMost most (number d))) × (m ≡ and (atTheEnd s at) (atMost most (number d)))
+      go : (d : List ℕ) → no ≡ told d (atMost limit (number d)) → m ≡ and (atTheEnd s at) (atMost limit (number d)) → (no ≡ told d (atMost repeatLimit (number d))) × (m ≡ and (atTheEnd s at) (atMost repeatLimit (number d)))
       go [] e g = (refl, g)
       go (b ∷ d) e g = absurd (some (number (b ∷ d)) _ (atMost limit (number (b ∷ d))) e)
 
@@ -103,15 +95,12 @@ unfolding repeatRun
 run-past-end s at n f e h = go (leb at (length s)) refl
   where
     past : (length s ≡ at) ⊎ ((v : ℕ) × (repeatRun .reads s at ≡ got v (length s))) → length s ≤ n
-    past (inl here) = let none : f ≡ no = h .found ∙ run-fails number (atMost 4294967295) 2 s at (omega arith) in omega (arith, rw none at e)
+    past (inl here) = let none : f ≡ no = h .found ∙ run-fails number (atMost repeatLimit) 2 s at (omega arith) in omega (arith, rw none at e)
     past (inr (w, i)) = let there : f ≡ got w (length s) = h .found ∙ i in omega (arith, rw there at e)
 
     go : (t : Bool) → leb at (length s) ≡ t → length s ≤ n
-    go true le = past (run-open number (atMost 4294967295) 2 s at (leb-true at (length s) le) (sym (h .more)))
-    go false le = let none : f ≡ no = h .found ∙ run-fails number (atMost 4294967295) 2 s at (omega (arith, leb-false at (length s) le)) in omega (arith, leb-false at (length s) le, rw none at e)
-
-abbrev slashed : Option ℕ → Reader Repetitions
-slashed n = map (λ _. timesOf n) (lit 47)
+    go true le = past (run-open number (atMost repeatLimit) 2 s at (leb-true at (length s) le) (sym (h .more)))
+    go false le = let none : f ≡ no = h .found ∙ run-fails number (atMost repeatLimit) 2 s at (omega (arith, leb-false at (length s) le)) in omega (arith, leb-false at (length s) le, rw none at e)
 
 -- a run, or none, and the `/` behind it
 pub digits-then : (s : List ℕ) (at : ℕ) (f : Found ℕ) (o : Option ℕ) (n : ℕ) (m l : Bool) (g : Found Repetitions) → lack at f ≡ got o n → Says repeatRun s at f m → Says (slashed o) s n g l → Says digitsAndSlash s at g l

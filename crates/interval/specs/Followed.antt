@@ -1,6 +1,6 @@
--- A date-time that something must follow. Behind the hour that ends the day a minute or second that is not 0 is no form, and what follows could
--- not be read where it is left out: so 00 alone is read here, and nothing is open that can only come to be no form. `proofs/Beside.antt`
--- holds it beside the rule of date-times.
+-- A date-time that something must follow. Behind hour 24 a minute or second that is not 0 makes the date-time no form; and where one is left
+-- unread, no `/` can follow. So 00 alone is read as one here, and nothing is open that could only become no form. `proofs/Beside.antt` holds it
+-- beside the rule of date-times.
 use Prim.Native.Nat.{ℕ, _+_}
 use mathlib.Core.List.{List}
 use mathlib.Core.Bool.{Bool, true, false}

@@ -15,8 +15,11 @@ use Rattle.datetime.specs.Rules.{dateTime}
 use Rattle.duration.specs.Rules.{duration}
 
 -- "The digit run after that `R` keeps the limit 4,294,967,295, beyond it refusal 2 whatever follows"
+abbrev pub repeatLimit : ℕ
+repeatLimit = 4294967295
+
 unfoldable pub repeatRun : Reader ℕ
-repeatRun = runAs number (atMost 4294967295) 2
+repeatRun = runAs number (atMost repeatLimit) 2
 
 -- "`R/` gives another record than no `R`": no `R`; `R` and no digits; `R` and digits
 abbrev pub timesOf : Option ℕ → Repetitions
@@ -28,8 +31,11 @@ orOnce none = Once
 orOnce (some r) = r
 
 -- "{`R`, optional digits, `/`}"
+abbrev pub slashed : Option ℕ → Reader Repetitions
+slashed n = map (λ _. timesOf n) (lit 47)
+
 abbrev pub digitsAndSlash : Reader Repetitions
-digitsAndSlash = seq (opt repeatRun) (λ n. map (λ _. timesOf n) (lit 47))
+digitsAndSlash = seq (opt repeatRun) slashed
 
 unfoldable pub repeated : Reader Repetitions
 repeated = seq (lit 82) (λ _. digitsAndSlash)
@@ -38,7 +44,8 @@ repeated = seq (lit 82) (λ _. digitsAndSlash)
 unfoldable pub repetitions : Reader Repetitions
 repetitions = map orOnce (opt repeated)
 
--- "any 2 ends the reading", and nothing else does: a date-time that is no form fails, and what comes next is tried
+-- "any 2 ends the reading", and nothing else does. W5's no form behind hour 24 ends the reading of a date-time, with 1; here it fails, as every
+-- no form does, and the next alternative is tried.
 abbrev pub noFormFails : {A : Type 0} → Found A → Found A
 noFormFails no = no
 noFormFails (stop r) = pick (eqb r 1) no (stop r)

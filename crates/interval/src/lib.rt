@@ -115,7 +115,7 @@ fn no_range(more: bool) -> RangeFound
 }
 
 // The date-time behind another and its `/`.
-fn closed_end(s: &[u8], at: usize, start: DateTime, choices: Choices) -> RangeFound
+fn second_stamp(s: &[u8], at: usize, start: DateTime, choices: Choices) -> RangeFound
     ensures { λ r. ⌜ Says (map (range.Closed start) (stamp choices)) (now (s .entry)) at (rangeFound r) (rangeMore r) ⌝ }
 {
     let found = datetime::datetime_at(s, at, choices);
@@ -136,7 +136,7 @@ fn closed_end(s: &[u8], at: usize, start: DateTime, choices: Choices) -> RangeFo
 }
 
 // The duration behind a date-time and its `/`.
-fn lasting(s: &[u8], at: usize, start: DateTime) -> RangeFound
+fn second_duration(s: &[u8], at: usize, start: DateTime) -> RangeFound
     ensures { λ r. ⌜ Says (map (range.ClosedStart start) duration) (now (s .entry)) at (rangeFound r) (rangeMore r) ⌝ }
 {
     let found = duration::duration_at(s, at);
@@ -162,8 +162,8 @@ fn after_start(s: &[u8], at: usize, start: DateTime, choices: Choices) -> RangeF
 {
     let mark = parser::literal(s, at, 80);
     match mark {
-        Mark::Got { next: _ } => lasting(s, at, start),
-        Mark::Wrong => closed_end(s, at, start, choices),
+        Mark::Got { next: _ } => second_duration(s, at, start),
+        Mark::Wrong => second_stamp(s, at, start, choices),
         Mark::Cut => RangeFound::Cut,
     }
 }
@@ -264,7 +264,7 @@ fn after_duration(
                 more: later,
             } => RangeFound::Got {
                 value: IntervalRange::ClosedEnd { duration, end },
-                next,
+                next, // past the date-time
                 more: later, // the date-time's: behind a / the duration is settled
             },
             DateTimeFound::Stopped => alone(duration, at, false),

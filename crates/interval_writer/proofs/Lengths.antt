@@ -16,6 +16,7 @@ use Rattle.writing.specs.Spelling.{repetitionsSpelling, rangeSpelling, interval
 use Rattle.writing.proofs.Digits.{digits-few}
 use Rattle.datetime_writer.proofs.Longest.{longest-stamp}
 use Rattle.duration_writer.proofs.Longest.{longest-duration}
+use Rattle.interval.specs.Rules.{repeatLimit}
 use Rattle.interval_writer.specs.declared.Side.{Side}
 use Rattle.interval_writer.specs.declared.Side.the-variants.{Stamp, Span}
 use Rattle.interval_writer.specs.Ranges.{repetitionsGiven}
@@ -31,7 +32,7 @@ pub repetitions-most : (r : Repetitions) → repetitionsGiven r ≡ true → len
 unfolding repetitionsSpelling repetitionsGiven
 repetitions-most Once e = omega arith
 repetitions-most Unlimited e = omega arith
-repetitions-most (Times n) e = omega (arith, times-size n, digits-few 9 20 n (omega (arith, leb-true n 4294967295 e)))
+repetitions-most (Times n) e = omega (arith, times-size n, digits-few 9 20 n (omega (arith, leb-true n repeatLimit e)))
 
 -- one side, and two with `/` between them
 pub side-most : (a : Side) → length (sideSpelling a) ≤ 149

@@ -10,7 +10,7 @@ use Rattle.types.specs.declared.Repetitions.{Repetitions}
 use Rattle.types.specs.declared.Repetitions.the-variants.{Once, Unlimited, Times}
 use Rattle.parser.specs.Reading.{lit}
 use Rattle.parser.specs.Digits.{number, atMost}
-use Rattle.interval.specs.Rules.{repeatRun, timesOf, orOnce, repeated, repetitions}
+use Rattle.interval.specs.Rules.{repeatLimit, repeatRun, timesOf, orOnce, repeated, repetitions}
 use Rattle.writing.specs.Spelling.{repetitionsSpelling}
 use Rattle.writing.proofs.Texts.{ReadAs, Refuses, lit-reads, seq-reads, seq-refuses, map-reads, opt-reads, opt-lacks}
 use Rattle.writing.proofs.Digits.{run-refuses, decimal-within}
@@ -22,8 +22,8 @@ unfolding repetitions repeated repeatRun repetitionsSpelling repetitionsGiven
 repetitions-read Once e h = map-reads orOnce (opt-lacks (seq-refuses _ h))
 repetitions-read Unlimited e h = map-reads orOnce (opt-reads (seq-reads _ (lit-reads 82 _) (seq-reads _ (opt-lacks (run-refuses _ _ _ refl)) (map-reads _ (lit-reads 47 _)))))
 repetitions-read (Times n) e h =
-    let few = leb-true n 4294967295 e in
-    map-reads orOnce (opt-reads (seq-reads _ (lit-reads 82 _) (seq-reads _ (opt-reads (decimal-within 4294967295 2 n _ few (omega arith) refl)) (map-reads _ (lit-reads 47 _)))))
+    let few = leb-true n repeatLimit e in
+    map-reads orOnce (opt-reads (seq-reads _ (lit-reads 82 _) (seq-reads _ (opt-reads (decimal-within repeatLimit 2 n _ few (omega arith) refl)) (map-reads _ (lit-reads 47 _)))))
 
 -- ---- what is read
 
@@ -32,7 +32,7 @@ Given r = repetitionsGiven r ≡ true
 
 run-yields : Yields (λ n. Given (Times n)) repeatRun
 unfolding repeatRun repetitionsGiven
-run-yields = run-as-yields number (atMost 4294967295) 2 (λ l h. h)
+run-yields = run-as-yields number (atMost repeatLimit) 2 (λ l h. h)
 
 times-given : (o : Option ℕ) → OrLeftOut (λ n. Given (Times n)) o → Given (timesOf o)
 unfolding repetitionsGiven

@@ -11,12 +11,13 @@ use Rattle.types.specs.declared.Repetitions.the-variants.{Once, Unlimited, Time
 use Rattle.parser.specs.Reading.{and}
 use Rattle.datetime_writer.specs.Ranges.{dateTimeGiven}
 use Rattle.duration_writer.specs.Ranges.{durationGiven}
+use Rattle.interval.specs.Rules.{repeatLimit}
 
 -- a number of 32 bits is never above it
 unfoldable pub repetitionsGiven : Repetitions → Bool
 repetitionsGiven Once = true
 repetitionsGiven Unlimited = true
-repetitionsGiven (Times n) = leb n 4294967295
+repetitionsGiven (Times n) = leb n repeatLimit
 
 unfoldable pub rangeGiven : Choices → IntervalRange → Bool
 rangeGiven c (range.Closed a b) = and (dateTimeGiven c a) (dateTimeGiven c b)

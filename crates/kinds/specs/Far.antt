@@ -42,8 +42,8 @@ pub record Needs (n : ℕ) (k : Kind) (s : List ℕ) : Type 0 where
   pub near : Near n k s
   pub none-shorter : NoneShorter n k s
 
--- an input of each kind that needs as many as any: a `+`, since a `Z` alone is an offset, and three bytes alone an interval; of the others the
--- empty one
+-- an input of each kind that needs as many as any: a `+`, since a `Z` alone is an offset, and three bytes, `P1Y`, complete the empty interval (W12: "a
+-- lone `+` needs them"); of the others the empty one
 abbrev pub farthest : Kind → List ℕ
 farthest kind.Date = []
 farthest (kind.Time c) = []

@@ -48,6 +48,7 @@ bound (kind.Time c) = 2
 bound kind.Offset = 2
 bound (kind.Stamp c) = 10
 bound kind.Duration = 3
+-- W12: "with fourteen bytes in place of W11's ten"
 bound (kind.Interval c) = 14
 
 -- "a letter `d`, `t`, `o`, `s` or `p` (date, time, offset, date-time, duration)", and W12's `i`

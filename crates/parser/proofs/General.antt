@@ -59,15 +59,15 @@ unfolding seq
 after-same c q s at from e = record { reads = rw e; more = rw (lit-definite c s at tt from e, e) }
 
 -- an alternative that finds nothing, whatever follows, does nothing
+pub or-else-no : {A : Type 0} (f : Found A) → orElse f no ≡ f
+or-else-no no = refl
+or-else-no (got a n) = refl
+or-else-no (stop r) = refl
+
 pub alt-drop : {A : Type 0} {p q : Reader A} (r : Reader A) {s : List ℕ} {at from : ℕ} → SameFrom p q s at from → Says r s at no false → SameFrom (alt p r) q s at from
 unfolding alt
 alt-drop {A} {p} {q} r {s} {at} e h = record { reads = rw (← h .found) (or-else-no (p .reads s at)) ∙ e .reads; more = rw (← h .more) (or-failed (p .more s at) (failed (p .reads s at))) ∙ e .more }
   where
-    or-else-no : (f : Found A) → orElse f no ≡ f
-    or-else-no no = refl
-    or-else-no (got a n) = refl
-    or-else-no (stop r) = refl
-
     or-failed : (m t : Bool) → or m (and t false) ≡ m
     or-failed true t = refl
     or-failed false true = refl

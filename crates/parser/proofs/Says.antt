@@ -7,7 +7,7 @@ use mathlib.Core.Option.{Option, none}
 use mathlib.Core.Path.{_≡_, refl, sym, ap, _∙_}
 use Rattle.parser.specs.Reading.{Found, no, got, stop, Reader, seq, opt, lack, alt, failed, verify, keep, must, keepOrStop, map, mapFound, or, Says, SaysOn}
 use Rattle.parser.proofs.Fields.{true≢false}
-use Rattle.parser.proofs.Places.{Fails}
+use Rattle.parser.proofs.Places.{no≢got, Fails}
 use Rattle.parser.proofs.Hopeful.{AtEnd}
 
 pub or-false : (m : Bool) → or m false ≡ m
@@ -72,6 +72,11 @@ unfolding seq opt
 says-cut p q s at ep fq h = record { found = rw (← h .found, fq s at (ep s at (sym (h .more)))); more = rw (← h .more) }
 
 -- ---- reading on from what was left open
+
+-- where a byte stands that does not stand behind what was left open, nothing was
+pub settled-before : (b : Bool) {f : Found Unit} {n : ℕ} → (b ≡ true → f ≡ no) → got tt n ≡ f → b ≡ false
+settled-before true h e = absurd (no≢got (sym (h refl) ∙ sym e))
+settled-before false h e = refl
 
 pub says-on : {A : Type 0} (p : Reader A) (s : List ℕ) (at : ℕ) (f : Found A) (b m : Bool) → Says p s at f m → SaysOn b p s at f (or b m)
 says-on p s at f b m h = record { found = h .found; more = rw (h .more) }

@@ -10,7 +10,8 @@ use native.Mathlib.Nat.{add-zero}
 use native.Mathlib.Numerals.{add-one}
 use native.Mathlib.Omega.{arith}
 use lib.ListN.{length, getD, take, drop, take-append-drop, length-append, List·getD-append}
-use lib.Seq.{getD-drop, length-take-le, split-at}
+use lib.Seq.{getD-drop, length-take-le}
+use borrow.Author.Tests.{lt-ltb}
 use lib.Dec.{ltb, eqb}
 use Rattle.types.specs.declared.Choices.{Choices}
 use Rattle.types.specs.declared.DateTime.{DateTime}
@@ -19,14 +20,15 @@ use Rattle.types.specs.declared.IntervalRange.the-variants as range
 use Rattle.types.specs.declared.Repetitions.{Repetitions}
 use Rattle.parser.specs.Reading.{no, got, Reader, lit, seq, then, opt, lack, map, mapFound, pick, and}
 use Rattle.parser.proofs.Places.{no≢got, got-place, from-no, from-stop, made}
-use Rattle.parser.proofs.Lawful.{Outside, open-apart}
+use Rattle.parser.proofs.Lawful.{Outside}
 use Rattle.date.specs.Rules.{date}
 use Rattle.date.proofs.Parts as date-parts
 use Rattle.date.proofs.Laws.{date-item}
 use Rattle.duration.specs.Rules.{duration}
 use Rattle.duration.proofs.Laws as duration-laws
 use Rattle.datetime.specs.Rules.{dateTime}
-use Rattle.interval.specs.Rules.{repeatRun, timesOf, orOnce, repeated, repetitions, tried, stamp, intervalOf}
+use Rattle.interval.proofs.Apart.{item-out}
+use Rattle.interval.specs.Rules.{repeatLimit, repeatRun, timesOf, orOnce, repeated, repetitions, tried, stamp, intervalOf}
 use Rattle.interval.specs.Followed.{followed}
 use Rattle.interval.specs.Once.{afterStart, stampFirst, orOpen, afterDuration, durationFirst, rangeOnce, intervalOnce}
 use Rattle.shortening.specs.Sides.{startsZeros}
@@ -49,19 +51,9 @@ starts-inside : (s : List ℕ) (n : ℕ) → startsZeros (getD s n 0) ≡ true �
 starts-inside s n h = by-start (λ b. getD s n 0 ≡ b → n < length s) (inside s n 79) (inside s n 81) (getD s n 0) h refl
 
 no-date : NoZeroStart date
-no-date s n h = record { reads = reads; opens = λ o. absurd (open-apart (date-item .lawful) (take n s) (getD s n 0) (drop (suc n) s) n other fits (rw (← there) o)) }
-  where
-    there : s ≡ take n s ++ getD s n 0 ∷ drop (suc n) s
-    there = split-at s n 0 (starts-inside s n h)
-
-    fits : n ≤ length (take n s)
-    fits = omega (arith, length-take-le n s (omega (arith, starts-inside s n h)))
-
-    other : Outside date-parts.bytes (getD s n 0)
-    other = by-start (Outside date-parts.bytes) refl refl (getD s n 0) h
-
-    reads : date .reads s n ≡ no
-    reads = ap (λ (l : List ℕ). date .reads l n) there ∙ date-item .lawful .steady .foreign (take n s) (getD s n 0) (drop (suc n) s) n other fits ∙ date-item .fails (take n s) n (omega (arith, length-take-le n s (omega (arith, starts-inside s n h))))
+no-date s n h =
+    let out = item-out date-item s n (lt-ltb n (length s) (starts-inside s n h)) (by-start (Outside date-parts.bytes) refl refl (getD s n 0) h) in
+    record { reads = sym (out .found); opens = λ o. absurd (true≢false (sym o ∙ sym (out .more))) }
 
 pub no-stamp : (q : Date → Reader DateTime) → NoZeroStart (tried (seq date q))
 no-stamp q s n h = tried-stuck (seq-stuck (no-date s n h) q)
@@ -153,7 +145,7 @@ module _ (f : Family) (z : Own f) where
 
   repetitions-same : Simulates (own f z) repetitions
   unfolding repetitions repeated repeatRun
-  repetitions-same = map-simulates c orOnce (opt repeated) (opt-simulates c repeated (seq-simulates c (lit 82) _ (lit-simulates f 82 (unmarked 82 refl refl f) z) (λ _. seq-simulates c (opt repeatRun) _ (opt-simulates c repeatRun (run-simulates f 4294967295 (inl z))) (λ n. map-simulates c (λ _. timesOf n) (lit 47) slash-same))))
+  repetitions-same = map-simulates c orOnce (opt repeated) (opt-simulates c repeated (seq-simulates c (lit 82) _ (lit-simulates f 82 (unmarked 82 refl refl f) z) (λ _. seq-simulates c (opt repeatRun) _ (opt-simulates c repeatRun (run-simulates f repeatLimit (inl z))) (λ n. map-simulates c (λ _. timesOf n) (lit 47) slash-same))))
     where
       c : Cut
       c = own f z

@@ -17,7 +17,7 @@ use Rattle.parser.proofs.Stable.{or-false}
 use Rattle.parser.proofs.Places.{from-no, got-place, picked}
 use Rattle.datetime.specs.Rules.{dateTime}
 use Rattle.duration.specs.Rules.{duration}
-use Rattle.interval.specs.Rules.{repeatRun, timesOf, orOnce, repeated, repetitions, tried, stamp, intervalOf}
+use Rattle.interval.specs.Rules.{repeatLimit, repeatRun, timesOf, orOnce, repeated, repetitions, tried, stamp, intervalOf}
 use Rattle.interval.specs.Followed.{followed}
 use Rattle.interval.specs.Once.{afterStart, stampFirst, orOpen, afterDuration, durationFirst, rangeOnce, intervalOnce}
 use Rattle.shortening.specs.Sides.{startsZeros}
@@ -85,7 +85,7 @@ module _ (s : List ℕ) (h : Tidied true none s) where
       zero-side : startsZeros (getD s at 0) ≡ true → Normal zeros s at → SpansAt Side s 12 at repeated
       zero-side e clean =
           seq-spans Side s (Proper zeros s at) 1 11 at (lit 82) _ (lit-spans zeros 82 refl s at at (reaches-none s at)) (λ _ n g.
-          seq-spans Side s (Reaches s at) 10 1 n (opt repeatRun) _ (opt-spans (Reaches s at) s 10 n repeatRun (g .0) (run-spans 4294967295 10 (omega arith) (omega arith) s n (clean n (g .0) (g .1)) at (g .0))) (λ o k _.
+          seq-spans Side s (Reaches s at) 10 1 n (opt repeatRun) _ (opt-spans (Reaches s at) s 10 n repeatRun (g .0) (run-spans repeatLimit 10 (omega arith) (omega arith) s n (clean n (g .0) (g .1)) at (g .0))) (λ o k _.
           map-spans Side s 1 k (λ _. timesOf o) (lit 47) (slash-spans s k)))
 
   repetitions-spans : (at : ℕ) → begins s at ≡ true → SpansAt (λ n. begins s n ≡ true) s 12 at repetitions

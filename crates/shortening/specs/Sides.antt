@@ -1,5 +1,5 @@
--- The sides of an interval. "Pieces of an interval: leading zeros are without limit in a duration and after `R`, fraction digits in a
--- date-time, on either side of the `/`": a side goes by its first byte, `P` or `R` or any other.
+-- The sides of an interval. Leading zeros have no limit in a duration and behind `R`, fraction digits none in a date-time, on either side of the
+-- `/`: so a side goes by its first byte, `P` or `R` or any other.
 use Prim.Native.Nat.{ℕ}
 use mathlib.Core.Bool.{Bool, true, false}
 use lib.Dec.{eqb}

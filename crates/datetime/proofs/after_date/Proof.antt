@@ -1,11 +1,8 @@
 -- A `T`, behind which the date is settled, another byte, or the end; what the date left open stays so.
-use Prim.Native.Nat.{ℕ}
-use mathlib.Core.Bool.{Bool, true, false}
-use mathlib.Core.Path.{_≡_, refl, sym, _∙_}
-use Rattle.parser.specs.Reading.{Found, no, got, lit}
-use Rattle.parser.proofs.Places.{no≢got}
+use mathlib.Core.Bool.{true, false}
+use Rattle.parser.specs.Reading.{lit}
 use Rattle.datetime.specs.Rules.{timeOf, afterDate}
-use Rattle.parser.proofs.Says.{or-false, or-true, says-on, says-seq-got, on-seq-no}
+use Rattle.parser.proofs.Says.{or-false, or-true, settled-before, says-on, says-seq-got, on-seq-no}
 use borrow.Author.Needs.{needs}
 use Rattle.datetime.proofs.after_date.Statement.{statement}
 use Rattle.datetime.proofs.after_date.Tie as tie
@@ -28,17 +25,12 @@ no-datetime-requires c κs = search needs
 enum-told-2 : tie.Need-enum-told-2
 enum-told-2 c = search needs
 
--- a T stands here, so that the date was settled
-settled : (b : Bool) {f : Found Unit} {n : ℕ} → (b ≡ true → f ≡ no) → got tt n ≡ f → b ≡ false
-settled true h e = absurd (no≢got (sym (h refl) ∙ sym e))
-settled false h e = refl
-
 returns : tie.Need-returns
 unfolding afterDate
 returns c =
     let a = c .before .before .before .before .before .before .args in
     let mark = rw (c .before .before .mark .given .1) at (c .before .before .before .before .literal .ensures) in
-    rw (settled (a .more) (c .before .before .before .before .before .before .pre) (mark .found))
+    rw (settled-before (a .more) (c .before .before .before .before .before .before .pre) (mark .found))
     (says-on _ (a .s .now) (a .at) _ false _ (says-seq-got (lit 84) (a .s .now) (a .at) (λ _. timeOf (a .choices) (a .date)) tt _ false _ _ mark (c .time-of .ensures)))
 
 returns-2 : tie.Need-returns-2

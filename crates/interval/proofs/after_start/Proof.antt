@@ -18,14 +18,14 @@ unfolding afterStart stamp
 returns c =
     let a = c .before .before .before .before .before .args in
     let there = lit-there 80 (a .s .now) (a .at) _ (rw (c .before .enum-told .given .1) at (c .before .before .before .literal .ensures)) in
-    says-alt-no (map (Closed (a .start)) (stamp (a .choices))) (a .s .now) (a .at) (map (ClosedStart (a .start)) duration) false _ _ (says-map (stamp (a .choices)) (a .s .now) (a .at) (Closed (a .start)) no false (tried-out (stamp-out (a .s .now) (a .at) (there .0) (rw (there .1)) (a .choices)))) (c .lasting .ensures)
+    says-alt-no (map (Closed (a .start)) (stamp (a .choices))) (a .s .now) (a .at) (map (ClosedStart (a .start)) duration) false _ _ (says-map (stamp (a .choices)) (a .s .now) (a .at) (Closed (a .start)) no false (tried-out (stamp-out (a .s .now) (a .at) (there .0) (rw (there .1)) (a .choices)))) (c .second-duration .ensures)
 
 returns-2 : tie.Need-returns-2
 unfolding afterStart
 returns-2 c =
     let a = c .before .before .before .before .before .args in
     let other = lit-not 80 (a .s .now) (a .at) (rw (c .before .enum-told2 .given .1) at (c .before .before .before .literal .ensures)) in
-    says-alt-out (map (Closed (a .start)) (stamp (a .choices))) (map (ClosedStart (a .start)) duration) (a .s .now) (a .at) _ _ (c .closed-end .ensures) (says-map duration (a .s .now) (a .at) (ClosedStart (a .start)) no false (duration-out (a .s .now) (a .at) (other .0) (other .1)))
+    says-alt-out (map (Closed (a .start)) (stamp (a .choices))) (map (ClosedStart (a .start)) duration) (a .s .now) (a .at) _ _ (c .second-stamp .ensures) (says-map duration (a .s .now) (a .at) (ClosedStart (a .start)) no false (duration-out (a .s .now) (a .at) (other .0) (other .1)))
 
 returns-3 : tie.Need-returns-3
 returns-3 c =

@@ -4,6 +4,7 @@ use native.Mathlib.Omega.{arith}
 use borrow.Author.Needs.{needs}
 use borrow.Author.Tests.{le-leb}
 use Rattle.writing.specs.Spelling.{repetitionsSpelling}
+use Rattle.interval.specs.Rules.{repeatLimit}
 use Rattle.interval_writer.specs.Ranges.{repetitionsGiven}
 use Rattle.interval_writer.proofs.Lengths.{times-size}
 use Rattle.interval_writer.proofs.repetitions_length.Statement.{statement}
@@ -21,7 +22,7 @@ returns-3 : tie.Need-returns-3
 unfolding repetitionsGiven
 returns-3 c =
     let v = c .before .before .r .given in
-    rw (v .1) (omega (arith, times-size (v .0 .0), c .decimal-length .ensures .0), le-leb (v .0 .0) 4294967295 (search needs))
+    rw (v .1) (omega (arith, times-size (v .0 .0), c .decimal-length .ensures .0), le-leb (v .0 .0) repeatLimit (search needs))
 
 pub repetitions-length-spec : {M : Type 1} → statement M
 repetitions-length-spec =

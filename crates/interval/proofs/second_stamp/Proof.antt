@@ -7,8 +7,8 @@ use Rattle.datetime.specs.Rules.{dateTime}
 use Rattle.interval.specs.Rules.{stamp}
 use Rattle.interval.proofs.Telling.{says-tried}
 use borrow.Author.Needs.{needs}
-use Rattle.interval.proofs.closed_end.Statement.{statement}
-use Rattle.interval.proofs.closed_end.Tie as tie
+use Rattle.interval.proofs.second_stamp.Statement.{statement}
+use Rattle.interval.proofs.second_stamp.Tie as tie
 
 returns : tie.Need-returns
 unfolding stamp
@@ -34,8 +34,8 @@ returns-4 c =
     let a = c .before .before .before .before .args in
     says-map (stamp (a .choices)) (a .s .now) (a .at) (Closed (a .start)) no true (says-tried (dateTime (a .choices)) (a .s .now) (a .at) no true (rw (c .enum-told3 .given .1) at (c .before .before .datetime-at .ensures)))
 
-pub closed-end-spec : {M : Type 1} → statement M
-closed-end-spec =
+pub second-stamp-spec : {M : Type 1} → statement M
+second-stamp-spec =
     tie.close
     (tie.spec
     (λ c κs. search needs) (λ c. search needs) (λ c. search needs) (λ c. search needs) (λ c. search needs)

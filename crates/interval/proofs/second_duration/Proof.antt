@@ -5,8 +5,8 @@ use Rattle.parser.specs.Reading.{no, stop}
 use Rattle.parser.proofs.Says.{says-map}
 use Rattle.duration.specs.Rules.{duration}
 use borrow.Author.Needs.{needs}
-use Rattle.interval.proofs.lasting.Statement.{statement}
-use Rattle.interval.proofs.lasting.Tie as tie
+use Rattle.interval.proofs.second_duration.Statement.{statement}
+use Rattle.interval.proofs.second_duration.Tie as tie
 
 returns : tie.Need-returns
 returns c =
@@ -28,8 +28,8 @@ returns-4 c =
     let a = c .before .before .before .before .args in
     says-map duration (a .s .now) (a .at) (ClosedStart (a .start)) no true (rw (c .enum-told3 .given .1) at (c .before .before .duration-at .ensures))
 
-pub lasting-spec : {M : Type 1} → statement M
-lasting-spec =
+pub second-duration-spec : {M : Type 1} → statement M
+second-duration-spec =
     tie.close
     (tie.spec
     (λ c κs. search needs) (λ c. search needs) (λ c. search needs) (λ c. search needs) (λ c. search needs)
