@@ -19,6 +19,7 @@ use Rattle.types.specs.declared.Date.{Date}
 use Rattle.types.specs.declared.IntervalRange.the-variants as range
 use Rattle.types.specs.declared.Repetitions.{Repetitions}
 use Rattle.parser.specs.Reading.{no, got, Reader, lit, seq, then, opt, lack, map, mapFound, pick, and}
+use Rattle.parser.proofs.Fields.{true≢false}
 use Rattle.parser.proofs.Places.{no≢got, got-place, from-no, from-stop, made}
 use Rattle.parser.proofs.Lawful.{Outside}
 use Rattle.date.specs.Rules.{date}
