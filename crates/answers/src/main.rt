@@ -2,6 +2,7 @@
 // that the line names tell of its text:
 //
 //     B COUNT VERDICT W WCOUNT RECORD
+#![tactic(auto)]
 use stream::Program;
 
 fn main() {

@@ -3,6 +3,7 @@
 // `start` gives a state, `step` gives it a piece, and `answer` and `end` say what the two readers say of all that was accepted, however it was
 // cut: that is `proofs/Laws.antt`. The state never holds the text, which has no limit: it keeps at most 200 bytes that are read the same, and
 // of each the place where it stood (specs/Keeping.antt).
+#![tactic(auto)]
 ghost use Rattle.std.specs.Prelude.{◌+◌, ◌<◌, min, max, ◌≡◌, length, drop};
 ghost use Rattle.arriving.specs.Keeping.{joined, zero_run, started, stepped, Answers, Ends};
 
@@ -19,7 +20,7 @@ pub const ROOM: usize = 200;
 pub const MOST: usize = 4294967295;
 
 // The kept bytes and the place of each in the input, how many they are, what the last of them tell (`nextMark`), and how many were accepted.
-#[derive(Drop)]
+#[derive(Clone, Copy)]
 pub struct State {
     pub kind: Kind,
     pub kept: [u8; 200],
@@ -30,7 +31,7 @@ pub struct State {
 }
 
 // The next state and 0, or the same state and 6, where so many bytes were accepted that the piece would make them too many.
-#[derive(Drop)]
+#[derive(Clone, Copy)]
 pub struct Stepped {
     pub state: State,
     pub number: u32,

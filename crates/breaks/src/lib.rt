@@ -3,6 +3,7 @@
 //
 // All of it under document 01's rules, edition 2019, whatever choices a kind is named with. A text can be completed exactly where it is open or
 // accepted, so that one reading tells it, and what begins such a text can be completed too, so that the place is found by halving.
+#![tactic(auto)]
 ghost use Rattle.std.specs.Prelude.{◌≡◌};
 ghost use Rattle.breaks.specs.Breaks.{under2019, BreaksAt, Completable, Tells, numbered, handed, Hands};
 ghost use Rattle.breaks.specs.Standing.{wholly, Stands};
@@ -11,7 +12,7 @@ use kinds::answer::{Answer, Kind};
 use types::{Choices, Verdict};
 
 // What is to be said of a text. `at` is the place of the first bad byte.
-#[derive(Drop)]
+#[derive(Clone, Copy)]
 pub enum Reason {
     Ok,
     Early,
@@ -43,7 +44,7 @@ impl Reason {
 }
 
 // What one reading tells: accepted; not, but some continuation is; or none is.
-#[derive(Drop)]
+#[derive(Clone, Copy)]
 enum Standing {
     Accepted,
     Unfinished,

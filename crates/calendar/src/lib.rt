@@ -1,5 +1,6 @@
 // The day of a date, by closed forms. Days are counted from 1 January of the year -2,147,484,000, so that no number is negative; the calendar
 // itself stands in specs/Calendar.antt, by counting.
+#![tactic(auto)]
 ghost use Rattle.std.specs.Prelude.{◌≡◌, ◌+◌, ◌≤◌, ◌<◌, pos, ◌+ℤ◌, take};
 ghost use Rattle.calendar.specs.Calendar.{months, sum};
 ghost use Rattle.types.specs.declared.Date.TheVariants.{YMD, Week, Ordinal};
@@ -8,14 +9,14 @@ ghost use Rattle.calendar.specs.Far.{leap_from, before, Begins, DayOf};
 use types::Date;
 
 // The day of a date, counted from the first; or a day that its month or year lacks.
-#[derive(Drop)]
+#[derive(Clone, Copy)]
 pub enum Day {
     Number(u64),
     Lacking,
 }
 
 // The first day of a year, and whether it is a leap year.
-#[derive(Drop)]
+#[derive(Clone, Copy)]
 struct Year {
     first: u64,
     leap: bool,

@@ -1,4 +1,5 @@
 // What a line counts as, and the table of five kinds by four answers that a count is raised in.
+#![tactic(auto)]
 ghost use Rattle.std.specs.Prelude.{◌≡◌};
 ghost use Rattle.types.specs.Sums.{or_over};
 ghost use Rattle.parser.specs.Answer.{recorded};
@@ -10,7 +11,7 @@ use kinds::answer::{Answer, Kind, Letter, Record};
 use types::InSeconds;
 
 // A line that is counted in the table, at its kind's row and its answer, with the seconds that it adds; or a bad one.
-#[derive(Drop)]
+#[derive(Clone, Copy)]
 pub enum Seen {
     Counted {
         row: usize,

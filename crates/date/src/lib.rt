@@ -1,5 +1,6 @@
 // Dates (date.rs): calendar, week and ordinal dates, each read from a place of the input. The year and the dash after it are read
 // once for the four alternatives, and each of these starts at the place after them.
+#![tactic(auto)]
 ghost use Rattle.std.specs.Prelude.{◌≡◌, true};
 ghost use Rattle.parser.specs.Reading.{alt, Says};
 ghost use Rattle.parser.specs.Read.{place_after};
@@ -15,7 +16,7 @@ use types::Date;
 pub mod plain;
 
 // What a year finds: it is never open once it has its four digits.
-#[derive(Drop)]
+#[derive(Clone, Copy)]
 pub enum YearFound {
     Got { value: i32, next: usize },
     Wrong,
@@ -23,7 +24,7 @@ pub enum YearFound {
 }
 
 // What an optional day finds. `more`: none was read, and the input ended where one could still follow.
-#[derive(Drop)]
+#[derive(Clone, Copy)]
 pub enum DayFound {
     Got { value: u32, next: usize, more: bool },
     Wrong,
@@ -31,7 +32,7 @@ pub enum DayFound {
 
 // What reading at a place finds. `more`: the input ended where a byte more could still matter. Wrong: nothing, whatever follows.
 // Cut: nothing yet, but the input ended where it could still come right.
-#[derive(Drop)]
+#[derive(Clone, Copy)]
 pub enum DateFound {
     Got {
         value: Date,

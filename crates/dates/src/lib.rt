@@ -1,4 +1,5 @@
 // The two readers of a date, on the rule in crates/date: one of bytes that begin with it, one of bytes that are it as a whole.
+#![tactic(auto)]
 ghost use Rattle.parser.specs.Answer.{Rest};
 ghost use Rattle.date.specs.Rules.{date};
 ghost use Rattle.dates.specs.Answer.{date_reads, date_parses};
@@ -7,14 +8,14 @@ use date::DateFound;
 use types::{Date, Refusal, Verdict};
 
 // A record with the count of its bytes; or a refusal with the bytes that the form took, 0 unless bytes are left over.
-#[derive(Drop)]
+#[derive(Clone, Copy)]
 pub enum DateAnswer {
     Record { value: Date, count: usize },
     Refused { why: Refusal, count: usize },
 }
 
 // The answer on a beginning, and whether a longer input could get another.
-#[derive(Drop)]
+#[derive(Clone, Copy)]
 pub struct DateRead {
     pub answer: DateAnswer,
     pub verdict: Verdict,

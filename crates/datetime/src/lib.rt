@@ -1,4 +1,5 @@
 // Date-times (datetime.rs): a date, one `T`, a time.
+#![tactic(auto)]
 ghost use Rattle.std.specs.Prelude.{◌≡◌, true};
 ghost use Rattle.parser.specs.Reading.{Says, SaysOn, lit, no};
 ghost use Rattle.datetime.specs.Rules.{time_of, after_date, date_time};
@@ -14,7 +15,7 @@ pub mod plain;
 
 // What reading at a place finds. `more`: the input ended where a byte more could still matter. Stopped: no form, as the time is none.
 // Wrong: nothing, whatever follows. Cut: nothing yet, but the input ended where it could still come right.
-#[derive(Drop)]
+#[derive(Clone, Copy)]
 pub enum DateTimeFound {
     Got {
         value: DateTime,

@@ -11,7 +11,7 @@ use time::plain::PlainTime;
 use types::{Choices, DateTime};
 
 // A date-time of the plain form; or no such date-time, and the rule has to tell. `more`: the input ended behind it.
-#[derive(Drop)]
+#[derive(Clone, Copy)]
 enum PlainStamp {
     Got {
         value: DateTime,

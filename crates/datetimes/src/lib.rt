@@ -1,4 +1,5 @@
 // The two readers of a date-time, on the rule in crates/datetime: one of bytes that begin with it, one of bytes that are it as a whole.
+#![tactic(auto)]
 ghost use Rattle.parser.specs.Answer.{Rest};
 ghost use Rattle.datetime.specs.Rules.{date_time};
 ghost use Rattle.datetimes.specs.Answer.{date_time_reads, date_time_parses};
@@ -7,14 +8,14 @@ use datetime::DateTimeFound;
 use types::{Choices, DateTime, Refusal, Verdict};
 
 // A record with the count of its bytes; or a refusal with the bytes that the form took, 0 unless bytes are left over.
-#[derive(Drop)]
+#[derive(Clone, Copy)]
 pub enum DateTimeAnswer {
     Record { value: DateTime, count: usize },
     Refused { why: Refusal, count: usize },
 }
 
 // The answer on a beginning, and whether a longer input could get another.
-#[derive(Drop)]
+#[derive(Clone, Copy)]
 pub struct DateTimeRead {
     pub answer: DateTimeAnswer,
     pub verdict: Verdict,

@@ -1,5 +1,6 @@
 // What `apart` says of a line: how far the second of its two texts lies behind the first, `SECONDS NANOS` or `refused N`. Programs stand on
 // `apart_line`.
+#![tactic(auto)]
 ghost use Rattle.std.specs.Prelude.{◌++◌};
 ghost use Rattle.moments.specs.Moments.{fault_number};
 ghost use Rattle.text.specs.Text.{Puts, decimal};
@@ -16,7 +17,7 @@ use words::rows::put_name;
 use words::word::{Name, Word, signed};
 
 // What a line asks: the first text stands from a place up to the space, the second behind that; or nothing.
-#[derive(Drop)]
+#[derive(Clone, Copy)]
 enum Asked {
     Of {
         choices: Choices,

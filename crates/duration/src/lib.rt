@@ -1,5 +1,6 @@
 // Durations (duration.rs). A duration whose runs have one digit or two is read by the bytes where their letters stand; any other is read
 // again from its beginning, run by run.
+#![tactic(auto)]
 ghost use Rattle.std.specs.Prelude.{◌≡◌, ◌+◌, ◌<◌, ◌≤◌, length, ◌≢◌, slice_index};
 ghost use Rattle.parser.specs.Reading.{no, Says};
 ghost use Rattle.duration.specs.Rules.{duration_base_time, duration_time, duration};
@@ -13,7 +14,7 @@ use parts::{Item, Part};
 use types::Duration;
 
 // Hour, minute and second parts of a duration's time portion
-#[derive(Drop)]
+#[derive(Clone, Copy)]
 pub struct DurationTimeParts {
     pub hours: u64,
     pub minutes: u64,
@@ -21,7 +22,7 @@ pub struct DurationTimeParts {
 }
 
 // What the time portion finds. `more`: the input ended where a byte more could still matter.
-#[derive(Drop)]
+#[derive(Clone, Copy)]
 enum TimeFound {
     Got {
         value: DurationTimeParts,
@@ -35,7 +36,7 @@ enum TimeFound {
 
 // What reading at a place finds. `more`: the input ended where a byte more could still matter. TooBig: a part's number is above
 // the limit. Wrong: nothing, whatever follows. Cut: nothing yet, but the input ended where it could still come right.
-#[derive(Drop)]
+#[derive(Clone, Copy)]
 pub enum DurationFound {
     Got {
         value: Duration,
@@ -229,7 +230,7 @@ const LONG: u32 = 512;
 const NONE: u32 = 513;
 
 // A part that was tried by a look, and the look at the place after it.
-#[derive(Drop)]
+#[derive(Clone, Copy)]
 struct Looked {
     part: Part,
     look: u32,
@@ -327,7 +328,7 @@ fn short_part(s: &[u8], at: usize, letter: u32, look: u32) -> Looked
 }
 
 // Where a time starts, behind its `T` if there is one, and the look there.
-#[derive(Drop)]
+#[derive(Clone, Copy)]
 struct Start {
     next: usize,
     look: u32,

@@ -1,4 +1,5 @@
 // The two readers of a duration, on the rule in crates/duration: one of bytes that begin with it, one of bytes that are it as a whole.
+#![tactic(auto)]
 ghost use Rattle.std.specs.Prelude.{◌≡◌};
 ghost use Rattle.types.specs.Numbers.{number_of};
 ghost use Rattle.parser.specs.Answer.{Rest, refused};
@@ -9,14 +10,14 @@ use duration::DurationFound;
 use types::{Duration, Refusal, Verdict};
 
 // A record with the count of its bytes; or a refusal with the bytes that the form took, 0 unless bytes are left over.
-#[derive(Drop)]
+#[derive(Clone, Copy)]
 pub enum DurationAnswer {
     Record { value: Duration, count: usize },
     Refused { why: Refusal, count: usize },
 }
 
 // The answer on a beginning, and whether a longer input could get another.
-#[derive(Drop)]
+#[derive(Clone, Copy)]
 pub struct DurationRead {
     pub answer: DurationAnswer,
     pub verdict: Verdict,

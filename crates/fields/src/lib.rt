@@ -1,4 +1,5 @@
 // Fields of a fixed number of digits, and optional ones (parser.rs), each read from a place of the input.
+#![tactic(auto)]
 ghost use Rattle.std.specs.Prelude.{◌≡◌, leb};
 ghost use Rattle.parser.specs.Reading.{Says};
 ghost use Rattle.parser.specs.Digits.{field, reach, lowest, highest};
@@ -6,7 +7,7 @@ ghost use Rattle.parser.specs.Fields.{preceded_by, month, day, hour, minute, sec
 ghost use Rattle.fields.specs.Read.{or_left_out, cut_field, number_found, number_more};
 
 // What a field finds: a number; what no longer input can mend; or an end of the input that more bytes could mend.
-#[derive(Drop)]
+#[derive(Clone, Copy)]
 pub enum Number {
     Got { value: u32, next: usize },
     Wrong,
@@ -14,7 +15,7 @@ pub enum Number {
 }
 
 // What an optional number finds. `more`: the input ended where it could still be written.
-#[derive(Drop)]
+#[derive(Clone, Copy)]
 pub struct Part {
     pub value: u32,
     pub next: usize,

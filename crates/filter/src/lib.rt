@@ -1,6 +1,7 @@
 // Runs a program over standard input and standard output, and tells what failed. All programs that answer lines run here.
 //
 // What has arrived is answered before the program waits for more.
+#![tactic(auto)]
 ghost use Rattle.std.specs.Prelude.{◌≤◌, length};
 ghost use Rattle.filter.specs.Served.{Serves};
 
@@ -9,14 +10,14 @@ use stream::{LIMIT, Program};
 use telling::tell;
 
 // What a block leaves: how many bytes are held; or a write that failed.
-#[derive(Drop)]
+#[derive(Clone, Copy)]
 enum Served {
     All { held: usize },
     Failed,
 }
 
 // Whether the input may go on, and what is held of it then.
-#[derive(Drop)]
+#[derive(Clone, Copy)]
 enum Turn {
     On { held: usize },
     Done,

@@ -1,5 +1,6 @@
 // Intervals (interval.rs), by request W12: a repeat that may be absent, and date-times and durations, two with a `/` between them or a
 // duration alone. A date-time that stands first in two alternatives is read once, and so is a duration.
+#![tactic(auto)]
 ghost use Rattle.std.specs.Prelude.{true, not, ◌≡◌};
 ghost use Rattle.parser.specs.Reading.{Says, SaysOn, lit, map, and, no};
 ghost use Rattle.types.specs.declared.IntervalRange.TheVariants as range;
@@ -16,7 +17,7 @@ use runs::Run;
 use types::{Choices, DateTime, Duration, Interval, IntervalRange, Repetitions, TimeOffset};
 
 // What a repeat is found as. TooBig: its number is.
-#[derive(Drop)]
+#[derive(Clone, Copy)]
 pub enum RepeatFound {
     Got { value: Repetitions, next: usize },
     TooBig,
@@ -26,7 +27,7 @@ pub enum RepeatFound {
 
 // What the sides are found as. `more`: the input ended where a byte more could still matter. Wrong: nothing, whatever follows. Cut: nothing yet,
 // but the input ended where it could still come right.
-#[derive(Drop)]
+#[derive(Clone, Copy)]
 pub enum RangeFound {
     Got {
         value: IntervalRange,
@@ -38,7 +39,7 @@ pub enum RangeFound {
     Cut,
 }
 
-#[derive(Drop)]
+#[derive(Clone, Copy)]
 pub enum IntervalFound {
     Got {
         value: Interval,

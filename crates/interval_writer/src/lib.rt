@@ -1,4 +1,5 @@
 // The writer of intervals: how often one repeats, and its sides with `/` between them.
+#![tactic(auto)]
 ghost use Rattle.std.specs.Prelude.{◌+◌, ◌≤◌, true, ◌≡◌, length};
 ghost use Rattle.interval.specs.Once.{interval};
 ghost use Rattle.text.specs.Text.{Puts};
@@ -14,7 +15,7 @@ use types::{Choices, DateTime, Duration, Interval, IntervalRange, Repetitions};
 use writing::{Measured, Written, decimal_length};
 
 // A side of an interval.
-#[derive(Drop)]
+#[derive(Clone, Copy)]
 enum Side {
     Stamp(DateTime),
     Span(Duration),

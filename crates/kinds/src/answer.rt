@@ -6,7 +6,7 @@ ghost use Rattle.kinds.specs.Kinds.{choices_in, among_five, told};
 use types::{Choices, Date, DateTime, Duration, Interval, Offset, Refusal, Time, Verdict};
 
 // A kind, and where its rule has choices, the caller's.
-#[derive(Drop)]
+#[derive(Clone, Copy)]
 pub enum Kind {
     Date,
     Time(Choices),
@@ -33,7 +33,7 @@ impl Kind {
 }
 
 // A record of any kind.
-#[derive(Drop)]
+#[derive(Clone, Copy)]
 pub enum Record {
     Date(Date),
     Time(Time),
@@ -44,21 +44,21 @@ pub enum Record {
 }
 
 // A record with the count of its bytes; or a refusal with the bytes that the form took, 0 unless bytes are left over.
-#[derive(Drop)]
+#[derive(Clone, Copy)]
 pub enum Answer {
     Record { value: Record, count: usize },
     Refused { why: Refusal, count: usize },
 }
 
 // The answer on a beginning, and whether a longer input could get another.
-#[derive(Drop)]
+#[derive(Clone, Copy)]
 pub struct Read {
     pub answer: Answer,
     pub verdict: Verdict,
 }
 
 // What a letter says.
-#[derive(Drop)]
+#[derive(Clone, Copy)]
 pub enum Letter {
     Names(Kind),
     Unknown,

@@ -3,18 +3,19 @@
 // A program holds the beginning of the line that no byte 10 has ended yet in a buffer of its own. It gives each block to `take_line`, from the
 // first byte on and then from the place behind what was taken, and gets a line at a time. That this gives each line of the input once and in
 // order, however the input is cut into blocks, is `took-line` of `proofs/Laws.antt`.
+#![tactic(auto)]
 ghost use Rattle.std.specs.Prelude.{min, ◌≡◌};
 ghost use Rattle.lines.specs.Lines.{place_of, Takes};
 
 // Where a byte stands, such as the byte 10 that ends a line: at a place, or nowhere yet.
-#[derive(Drop)]
+#[derive(Clone, Copy)]
 pub enum Ended {
     At { end: usize },
     Open,
 }
 
 // How many bytes are held of a line, and the place behind what was taken of the block. `ended`: the line is finished.
-#[derive(Drop)]
+#[derive(Clone, Copy)]
 pub struct Taken {
     pub held: usize,
     pub used: usize,

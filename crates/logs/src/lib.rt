@@ -2,6 +2,7 @@
 //
 // Whoever reads a log block by block begins with `start` and `no_counts`, gives each block to `step`, and at the end of the input calls `finish`,
 // which puts the table of all that was handed over. The buffer, for a line that no byte 10 has ended yet, has at least 205 bytes.
+#![tactic(auto)]
 ghost use Rattle.std.specs.Prelude.{◌≤◌, [], ◌≡◌, length};
 ghost use Rattle.counts.specs.Counts.{table_of};
 ghost use Rattle.logs.specs.Log.{started, with_line, One, AllLines, passes, Steps, Finishes};
@@ -17,7 +18,7 @@ mod table;
 pub const LIMIT: usize = 4294967295;
 
 // A log so far, beside its table: the bad lines, the sum, the bytes that are held of the line that goes on, and those that were taken.
-#[derive(Drop)]
+#[derive(Clone, Copy)]
 pub struct Week {
     pub bad: u64,
     pub tally: Tally,
@@ -26,7 +27,7 @@ pub struct Week {
 }
 
 // How far a block is used, and the log then.
-#[derive(Drop)]
+#[derive(Clone, Copy)]
 struct Reached {
     week: Week,
     used: usize,

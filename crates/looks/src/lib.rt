@@ -1,5 +1,6 @@
 // What is read at one go: digits at fixed places, looked at before the rule is asked. A look knows no rule. It says what it saw as
 // an equation of the bytes, and the kind proves that the rule reads the same there (`proofs/plain/Laws.antt` in each).
+#![tactic(auto)]
 ghost use Rattle.std.specs.Prelude.{◌≡◌, ◌≤◌};
 ghost use Rattle.looks.specs.Digits.{two_digits};
 ghost use Rattle.looks.specs.Date.{plain_date};
@@ -36,7 +37,7 @@ pub fn two_digits(a: u8, b: u8, lo: u32, hi: u32) -> u32
 }
 
 // A date of the plain form; or no such date, and the rule has to tell.
-#[derive(Drop)]
+#[derive(Clone, Copy)]
 pub enum PlainDate {
     Got { value: Date },
     Other,
@@ -81,7 +82,7 @@ pub fn plain_date(s: &[u8]) -> PlainDate
 }
 
 // A clock of the plain form; or no such clock, and the rule has to tell.
-#[derive(Drop)]
+#[derive(Clone, Copy)]
 pub enum PlainClock {
     Got { hour: u32, minute: u32, second: u32 },
     Other,
@@ -150,7 +151,7 @@ pub fn plain_millisecond(s: &[u8], at: usize) -> u32
 }
 
 // What stands at a place where an offset may: the end of the input, an offset of a plain form, or something for the rule to tell.
-#[derive(Drop)]
+#[derive(Clone, Copy)]
 pub enum PlainOffset {
     End,
     Got { value: Offset, next: usize },

@@ -1,4 +1,5 @@
 // The moment of a date-time, and how far two are apart. Seconds are counted from far back, so that none is negative before two are subtracted.
+#![tactic(auto)]
 ghost use Rattle.std.specs.Prelude.{◌≡◌, ◌<◌, pos, ◌+ℤ◌, ◌-ℤ◌};
 ghost use Rattle.std.proofs.Math.Option.{some};
 ghost use Rattle.types.specs.Sums.{minutes_in_all};
@@ -10,7 +11,7 @@ use calendar::Day;
 use types::{DateTime, Offset, Refusal, Time, TimeOffset};
 
 // Why there is no moment: the text is no date-time; its month or year lacks the day; it has no offset.
-#[derive(Drop)]
+#[derive(Clone, Copy)]
 pub enum Fault {
     Text(Refusal),
     NoDay,
@@ -19,7 +20,7 @@ pub enum Fault {
 
 // How far the second lies behind the first: so many seconds, below zero where it lies before it, and 0 to 999,999,999 nanoseconds more. Or what
 // is the matter with one of the two.
-#[derive(Drop)]
+#[derive(Clone, Copy)]
 pub enum Apart {
     By { seconds: i64, nanoseconds: u32 },
     First(Fault),
@@ -27,7 +28,7 @@ pub enum Apart {
 }
 
 // A moment, counted from far back.
-#[derive(Drop)]
+#[derive(Clone, Copy)]
 enum Instant {
     NoDay,
     NoOffset,

@@ -1,4 +1,5 @@
 // Offsets from UTC (offset.rs).
+#![tactic(auto)]
 ghost use Rattle.std.specs.Prelude.{◌≡◌, not, ◌≤◌};
 ghost use Rattle.types.specs.Sums.{signed_offset};
 ghost use Rattle.parser.specs.Reading.{Says, got, no, pick};
@@ -14,7 +15,7 @@ pub mod plain;
 
 // What reading at a place finds. `more`: the input ended where a byte more could still matter. Wrong: nothing, whatever follows.
 // Cut: nothing yet, but the input ended where it could still come right.
-#[derive(Drop)]
+#[derive(Clone, Copy)]
 pub enum OffsetFound {
     Got {
         value: Offset,

@@ -1,4 +1,5 @@
 // The writer of offsets: `Z`, or a signed `HH:MM`.
+#![tactic(auto)]
 ghost use Rattle.std.specs.Prelude.{◌≡◌};
 ghost use Rattle.types.specs.Sums.{same_sign};
 ghost use Rattle.parser.specs.Reading.{or};
@@ -39,7 +40,7 @@ fn is_minus(hours: i32, minutes: i32) -> bool
 }
 
 // An offset's sign, and its hours and minutes without it.
-#[derive(Drop)]
+#[derive(Clone, Copy)]
 struct Shift {
     minus: bool,
     hours: u32,

@@ -1,4 +1,5 @@
 // The two readers of an offset, on the rule in crates/offset: one of bytes that begin with it, one of bytes that are it as a whole.
+#![tactic(auto)]
 ghost use Rattle.std.specs.Prelude.{◌≡◌};
 ghost use Rattle.parser.specs.Reading.{got};
 ghost use Rattle.parser.specs.Answer.{Rest, refused, ended};
@@ -9,14 +10,14 @@ use offset::OffsetFound;
 use types::{Offset, Refusal, Verdict};
 
 // A record with the count of its bytes; or a refusal with the bytes that the form took, 0 unless bytes are left over.
-#[derive(Drop)]
+#[derive(Clone, Copy)]
 pub enum OffsetAnswer {
     Record { value: Offset, count: usize },
     Refused { why: Refusal, count: usize },
 }
 
 // The answer on a beginning, and whether a longer input could get another.
-#[derive(Drop)]
+#[derive(Clone, Copy)]
 pub struct OffsetRead {
     pub answer: OffsetAnswer,
     pub verdict: Verdict,

@@ -1,5 +1,7 @@
 // Single bytes and the sign, each read from a place of the input (parser.rs). A place past the end is the end, and
 // nothing is asked of a caller.
+#![tactic(auto)]
+
 ghost use Rattle.std.specs.Prelude.{◌≡◌, drop};
 ghost use Rattle.parser.specs.Reading.{lit, or, Says};
 ghost use Rattle.parser.specs.Fields.{either, signed};
@@ -9,14 +11,14 @@ ghost use Rattle.parser.specs.Read.{place_after, mark_found, mark_more, sign_fou
 use types::Verdict;
 
 // What a single byte finds: it, something else, or the end of the input.
-#[derive(Drop)]
+#[derive(Clone, Copy)]
 pub enum Mark {
     Got { next: usize },
     Wrong,
     Cut,
 }
 
-#[derive(Drop)]
+#[derive(Clone, Copy)]
 pub enum Signed {
     Got { minus: bool, next: usize },
     Wrong,

@@ -1,5 +1,6 @@
 // The parts of a duration, each a digit run and its letter, read from a place of the input (duration.rs). Which parts may stand in
 // a duration, and in what order, is asked elsewhere.
+#![tactic(auto)]
 ghost use Rattle.std.specs.Prelude.{◌≡◌};
 ghost use Rattle.parts.specs.Items.{item_at, absent_part, Tries};
 
@@ -7,7 +8,7 @@ use runs::Run;
 
 // What stands at a place: a number with the byte behind it; a number above the limit; no digit; or an end of the input
 // where a part could still be written.
-#[derive(Drop)]
+#[derive(Clone, Copy)]
 pub enum Item {
     Number { value: u64, letter: u8, next: usize },
     TooBig,
@@ -16,14 +17,14 @@ pub enum Item {
 }
 
 // An optional part: its number, or 0, and the place after it, which lies further on exactly where the part is there.
-#[derive(Drop)]
+#[derive(Clone, Copy)]
 pub struct Part {
     pub value: u64,
     pub next: usize,
 }
 
 // A part that was tried, and what stands at the place after it.
-#[derive(Drop)]
+#[derive(Clone, Copy)]
 pub struct Tried {
     pub part: Part,
     pub item: Item,

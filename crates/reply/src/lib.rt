@@ -3,6 +3,7 @@
 //     B COUNT VERDICT W WCOUNT RECORD
 //
 // put into a buffer of the caller's. Programs stand on `answer_line`.
+#![tactic(auto)]
 ghost use Rattle.std.specs.Prelude.{◌≤◌, ◌≡◌};
 ghost use Rattle.kinds.specs.Kinds.{told};
 ghost use Rattle.text.specs.Text.{Puts};
@@ -96,7 +97,7 @@ fn answer_text(kind: Kind, s: &[u8], shown: bool, out: &mut [u8], at: usize) -> 
 
 // What stands before the text of a line, up to its space: a letter, behind it `4` for edition 2004, and behind that `s` for the standard
 // reading.
-#[derive(Drop)]
+#[derive(Clone, Copy)]
 pub struct Head {
     pub from: usize,
     pub choices: Choices,

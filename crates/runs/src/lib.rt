@@ -1,5 +1,6 @@
 // Digit runs and the fraction, each read from a place of the input to its last digit (parser.rs). A place past the end is the end,
 // and nothing is asked of a caller.
+#![tactic(auto)]
 ghost use Rattle.std.specs.Prelude.{◌≡◌, ◌+◌, ◌-◌, ◌*◌, ◌^◌, ◌<◌, ◌≤◌, length, nat_lt};
 ghost use Rattle.parser.specs.Reading.{Says};
 ghost use Rattle.parser.specs.Digits.{limit, run, at_most, run_as, up_to_nine, fraction_of, fraction, run_at};
@@ -8,7 +9,7 @@ ghost use Rattle.runs.specs.Read.{found_run, run_found, fraction_found, run_more
 use types::Fraction;
 
 // What a digit run finds. `more`: it reaches the end of the input, where a digit could still be added.
-#[derive(Drop)]
+#[derive(Clone, Copy)]
 pub enum Run {
     Got { value: u64, next: usize, more: bool },
     TooBig,

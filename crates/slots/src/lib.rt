@@ -1,5 +1,6 @@
 // What an answer is in an array of slots of 64 bits: each function fills the slots of one answer and returns the paper's number. Where
 // the slots are too few, or the count is more than a slot holds, it writes nothing. The layout stands in specs/Slots.antt.
+#![tactic(auto)]
 ghost use Rattle.std.specs.Prelude.{◌≡◌, ◌∷◌, [], ◌+◌, ◌≤◌, ◌<◌, ◌^◌, pos, length};
 ghost use Rattle.std.proofs.lemmas.List.Edits.{sets};
 ghost use Rattle.types.specs.Numbers.{number_of};
@@ -21,7 +22,7 @@ pub const NO_SUCH_CHOICE: u32 = 254;
 pub const MOST: usize = 9223372036854775807;
 
 // The choices of a caller who has numbers alone.
-#[derive(Drop)]
+#[derive(Clone, Copy)]
 pub enum Chosen {
     Names(Choices),
     Unknown,
@@ -123,7 +124,7 @@ pub fn put_offset(slots: &mut [i64], count: usize, verdict: i64, o: Offset) -> u
 }
 
 // A time's offset in its three slots: whether one is given, and the offset.
-#[derive(Drop)]
+#[derive(Clone, Copy)]
 struct Shift {
     given: i64,
     hours: i64,
@@ -204,7 +205,7 @@ pub fn put_time(slots: &mut [i64], count: usize, verdict: i64, t: Time) -> u32
 }
 
 // A date's four slots: the form's number, the year, the month or week, the day.
-#[derive(Drop)]
+#[derive(Clone, Copy)]
 struct Day {
     form: u32,
     year: i32,

@@ -1,6 +1,7 @@
 // What the answer of an interval is in slots: how often it repeats, its shape, and its two sides, each at its place whatever stands there. A
 // side is filled by the function that fills the slots of its kind, which is lent the part of the slots that begins there. The layout stands in
 // slots' specs/Slots.antt.
+#![tactic(auto)]
 ghost use Rattle.std.specs.Prelude.{◌≡◌, ◌∷◌, [], ◌+◌, ◌≤◌, ◌<◌, ◌^◌, pos, length};
 ghost use Rattle.std.proofs.lemmas.List.Edits.{sets};
 ghost use Rattle.parser.specs.Answer.{recorded};
@@ -26,7 +27,7 @@ const NOTHING: Duration = Duration {
 };
 
 // A repeat's two slots: which of the three it is, and the number of times.
-#[derive(Drop)]
+#[derive(Clone, Copy)]
 struct Often {
     which: u32,
     times: u32,

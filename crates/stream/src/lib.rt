@@ -3,13 +3,14 @@
 // A program is a value, and `respond` puts its response to a line. Whoever reads an input block by block gives each block to `step`, which puts
 // the responses of the lines that the block ends, and at the end of the input calls `finish`. What was put then, one behind the other, is the
 // responses to the lines of all bytes so far, in order, each once.
+#![tactic(auto)]
 ghost use Rattle.std.specs.Prelude.{◌+◌, ◌≤◌, length};
 ghost use Rattle.reply.specs.Line.{Gives};
 ghost use Rattle.stream.specs.Stream.{Responds, One, Steps, Finishes};
 
 use lines::lesser;
 
-#[derive(Drop)]
+#[derive(Clone, Copy)]
 pub enum Program {
     Answers,
     Replay,
@@ -27,7 +28,7 @@ pub const LIMIT: usize = 1024;
 pub const ROOM: usize = 16384;
 
 // What is held of a line that no byte 10 has ended yet, how far a block is used, and the place behind what was put.
-#[derive(Drop)]
+#[derive(Clone, Copy)]
 pub struct Reached {
     pub held: usize,
     pub used: usize,

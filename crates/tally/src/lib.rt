@@ -1,11 +1,12 @@
 // The running sum of a log's durations.
+#![tactic(auto)]
 ghost use Rattle.std.specs.Prelude.{◌≡◌};
 ghost use Rattle.tally.specs.Tally.{with_line};
 
 use types::InSeconds;
 
 // The seconds so far: exact, or over since a line's seconds or the sum passed what 64 bits hold.
-#[derive(Drop)]
+#[derive(Clone, Copy)]
 pub struct Tally {
     pub sum: InSeconds,
 }

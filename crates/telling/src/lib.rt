@@ -2,6 +2,7 @@
 //
 // A program has no exit status of its own: where a read or a write fails it writes a line to standard error, which names what failed and why,
 // and the byte `1` to descriptor 3, of which the launcher makes status 1.
+#![tactic(auto)]
 use text::put;
 
 const STATUS_FILENO: i32 = 3;

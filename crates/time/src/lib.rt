@@ -1,4 +1,5 @@
 // Times of day (time.rs).
+#![tactic(auto)]
 ghost use Rattle.std.specs.Prelude.{◌≡◌, true, not, ◌≤◌, eqb};
 ghost use Rattle.std.proofs.Math.Option.{none};
 ghost use Rattle.parser.specs.Reading.{Says, SaysOn, no, got, and};
@@ -19,7 +20,7 @@ use types::{Choices, Edition, Fraction, Reading, Time, TimeOffset};
 pub mod plain;
 
 // What stands behind an hour.
-#[derive(Drop)]
+#[derive(Clone, Copy)]
 pub struct Clock {
     pub minute: u32,
     pub second: u32,
@@ -36,7 +37,7 @@ impl Clock {
 }
 
 // What a fraction is a fraction of.
-#[derive(Drop)]
+#[derive(Clone, Copy)]
 pub enum TimeUnit {
     Hour,
     Minute,
@@ -44,7 +45,7 @@ pub enum TimeUnit {
 }
 
 // What reading minute, second and fraction at a place finds; an absent one is 0. `more`, Stopped, Wrong and Cut: as in TimeFound.
-#[derive(Drop)]
+#[derive(Clone, Copy)]
 pub enum ClockFound {
     Got {
         value: Clock,
@@ -58,7 +59,7 @@ pub enum ClockFound {
 
 // What reading at a place finds. `more`: the input ended where a byte more could still matter. Stopped: no form, since what follows an hour
 // that ends the day is not 0. Wrong: nothing, whatever follows. Cut: nothing yet, but the input ended where it could still come right.
-#[derive(Drop)]
+#[derive(Clone, Copy)]
 pub enum TimeFound {
     Got {
         value: Time,

@@ -10,7 +10,7 @@ use looks::{PlainClock, PlainOffset};
 use types::{Choices, Fraction, Time, TimeOffset};
 
 // A time of the plain form; or no such time, and the rule has to tell. `more`: the input ended behind it.
-#[derive(Drop)]
+#[derive(Clone, Copy)]
 pub enum PlainTime {
     Got {
         value: Time,

@@ -1,17 +1,19 @@
 // The records that the readers make, the refusals and the verdict, and the small sums over them (types.rs).
+#![tactic(auto)]
+
 ghost use Rattle.std.specs.Prelude.{◌≡◌, ◌*◌, ◌<◌};
 ghost use Rattle.types.specs.Sums.{with_sign, minutes_in_all, in_range, made, plus, both, in_seconds, is_zero, has_time};
 ghost use Rattle.types.specs.Numbers.{number_of, sum_number};
 
 // Whether a longer input could still get another answer.
-#[derive(Drop)]
+#[derive(Clone, Copy)]
 pub enum Verdict {
     Settled,
     Open,
 }
 
 // Why no record is given.
-#[derive(Drop)]
+#[derive(Clone, Copy)]
 pub enum Refusal {
     NoForm,
     TooBig,
@@ -19,7 +21,7 @@ pub enum Refusal {
 }
 
 // The edition of ISO 8601 that a time is read by and written for: 2004 has an hour 24, the end of a day.
-#[derive(Drop)]
+#[derive(Clone, Copy)]
 pub enum Edition {
     E2004,
     E2019,
@@ -27,14 +29,14 @@ pub enum Edition {
 
 // What a fraction counts as where no second was written. Old: a fraction of a second, as in document 01. Standard: a fraction of the
 // smallest unit written, as in ISO 8601, and then it may follow the hour too.
-#[derive(Drop)]
+#[derive(Clone, Copy)]
 pub enum Reading {
     Old,
     Standard,
 }
 
 // What a caller chooses for times and date-times.
-#[derive(Drop)]
+#[derive(Clone, Copy)]
 pub struct Choices {
     pub edition: Edition,
     pub reading: Reading,
@@ -49,7 +51,7 @@ impl Choices {
 }
 
 // A calendar, week or ordinal date. A year before 0 is negative.
-#[derive(Drop)]
+#[derive(Clone, Copy)]
 pub enum Date {
     YMD { year: i32, month: u32, day: u32 },
     Week { year: i32, week: u32, day: u32 },
@@ -57,21 +59,21 @@ pub enum Date {
 }
 
 // A shift from UTC. Hours and minutes carry the same sign, or are zero.
-#[derive(Drop)]
+#[derive(Clone, Copy)]
 pub struct Offset {
     pub hours: i32,
     pub minutes: i32,
 }
 
 // An offset that may be absent: absent is not zero.
-#[derive(Drop)]
+#[derive(Clone, Copy)]
 pub enum TimeOffset {
     Absent,
     Given(Offset),
 }
 
 // A fraction in billionths, which are nanoseconds of a second, and how many of its digits were written, more than nine as 9.
-#[derive(Drop)]
+#[derive(Clone, Copy)]
 pub struct Fraction {
     pub nanosecond: u32,
     pub digits: u32,
@@ -87,7 +89,7 @@ impl Fraction {
 
 // A time of day. `digits`: how many digits of its fraction were written, more than nine as 9; where a fraction of a minute or an hour was counted,
 // 9, or 0 if no nanosecond is left.
-#[derive(Drop)]
+#[derive(Clone, Copy)]
 pub struct Time {
     pub hour: u32,
     pub minute: u32,
@@ -97,13 +99,13 @@ pub struct Time {
     pub offset: TimeOffset,
 }
 
-#[derive(Drop)]
+#[derive(Clone, Copy)]
 pub struct DateTime {
     pub date: Date,
     pub time: Time,
 }
 
-#[derive(Drop)]
+#[derive(Clone, Copy)]
 pub struct Duration {
     pub years: u64,
     pub months: u64,
@@ -115,7 +117,7 @@ pub struct Duration {
 }
 
 // How often an interval repeats: `Once` where no `R` was written; `Unlimited` for `R/`, which says no number; `Times` for `R5/`.
-#[derive(Drop)]
+#[derive(Clone, Copy)]
 pub enum Repetitions {
     Once,
     Unlimited,
@@ -123,7 +125,7 @@ pub enum Repetitions {
 }
 
 // What an interval spans: from one date-time to another; so long until a date-time; from a date-time on so long; or so long, and no more is said.
-#[derive(Drop)]
+#[derive(Clone, Copy)]
 pub enum IntervalRange {
     Closed { start: DateTime, end: DateTime },
     ClosedEnd { duration: Duration, end: DateTime },
@@ -131,21 +133,21 @@ pub enum IntervalRange {
     Open { duration: Duration },
 }
 
-#[derive(Drop)]
+#[derive(Clone, Copy)]
 pub struct Interval {
     pub repetitions: Repetitions,
     pub range: IntervalRange,
 }
 
 // The seconds of a duration in all; or, refused, that they are more than 64 bits hold.
-#[derive(Drop)]
+#[derive(Clone, Copy)]
 pub enum InSeconds {
     Sum(u64),
     Over,
 }
 
 // What the constructor of an offset gives.
-#[derive(Drop)]
+#[derive(Clone, Copy)]
 pub enum MadeOffset {
     Made(Offset),
     Outside,

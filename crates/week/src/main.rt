@@ -1,4 +1,5 @@
 // A week of logs in numbers: counts the lines of standard input by kind and answer, adds up the seconds of its durations, and prints seven lines.
+#![tactic(auto)]
 ghost use Rattle.std.specs.Prelude.{◌≤◌, length};
 ghost use Rattle.week.specs.Turns.{Turned, Counted};
 
@@ -7,7 +8,7 @@ use logs::Week;
 use telling::tell;
 
 // What a read leaves: the log so far, and whether bytes came behind the input; the end; or a read that failed, which is told.
-#[derive(Drop)]
+#[derive(Clone, Copy)]
 enum Turn {
     On { week: Week, past: bool },
     End,
@@ -15,7 +16,7 @@ enum Turn {
 }
 
 // The log as a whole; or that it could not be read.
-#[derive(Drop)]
+#[derive(Clone, Copy)]
 enum Log {
     Whole { week: Week, past: bool },
     Failed,

@@ -1,5 +1,6 @@
 // Tries the counts of `week` on several logs, parted by byte 28 and of 65,536 bytes at most together: each is counted whole, byte by byte and in
 // blocks of seven bytes, and each time its seven lines are written.
+#![tactic(auto)]
 ghost use Rattle.weeks.specs.Blocks.{Within};
 ghost use Rattle.text.specs.Text.{Puts};
 ghost use Rattle.lines.specs.Lines.{lines};

@@ -2,7 +2,7 @@
 ghost use Rattle.std.specs.Prelude.{◌≡◌};
 ghost use Rattle.words.specs.Words.{packed, letters_of, signed_word};
 
-#[derive(Drop)]
+#[derive(Clone, Copy)]
 pub enum Name {
     Ymd,
     Week,
@@ -25,7 +25,7 @@ pub enum Name {
 
 // A word with the space before it; Joined and Digits are the rest of the word before them, a name or a number with no space. Nothing is no
 // word: rows of words have places to spare.
-#[derive(Drop)]
+#[derive(Clone, Copy)]
 pub enum Word {
     Name(Name),
     Number(u64),

@@ -1,4 +1,5 @@
 // What writers share: their answer, digits in a fixed width, and how many digits a number has.
+#![tactic(auto)]
 ghost use Rattle.std.specs.Prelude.{◌≡◌, ◌+◌, ◌%◌, ◌≤◌, nat_abs, length};
 ghost use Rattle.parser.specs.Reading.{and};
 ghost use Rattle.text.specs.Text.{Puts, decimal};
@@ -8,7 +9,7 @@ ghost use Rattle.writing.specs.Writing.{number_of, count_of};
 use text::put_byte;
 
 // The text's length; or that no reader gives the record; or that the buffer is shorter than the text.
-#[derive(Drop)]
+#[derive(Clone, Copy)]
 pub enum Written {
     Text { count: usize },
     NoReader,
@@ -16,7 +17,7 @@ pub enum Written {
 }
 
 // The length of a record's spelling; or that no reader gives the record.
-#[derive(Drop)]
+#[derive(Clone, Copy)]
 pub enum Measured {
     Length(usize),
     NoReader,
