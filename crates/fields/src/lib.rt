@@ -1,5 +1,6 @@
 // Fields of a fixed number of digits, and optional ones (parser.rs), each read from a place of the input.
 #![tactic(auto)]
+
 ghost use Rattle.std.specs.Prelude.{◌≡◌, leb};
 ghost use Rattle.parser.specs.Reading.{Says};
 ghost use Rattle.parser.specs.Digits.{field, reach, lowest, highest};

@@ -1,6 +1,7 @@
 // What is read at one go: digits at fixed places, looked at before the rule is asked. A look knows no rule. It says what it saw as
 // an equation of the bytes, and the kind proves that the rule reads the same there (`proofs/plain/Laws.antt` in each).
 #![tactic(auto)]
+
 ghost use Rattle.std.specs.Prelude.{◌≡◌, ◌≤◌};
 ghost use Rattle.looks.specs.Digits.{two_digits};
 ghost use Rattle.looks.specs.Date.{plain_date};

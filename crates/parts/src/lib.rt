@@ -1,6 +1,7 @@
 // The parts of a duration, each a digit run and its letter, read from a place of the input (duration.rs). Which parts may stand in
 // a duration, and in what order, is asked elsewhere.
 #![tactic(auto)]
+
 ghost use Rattle.std.specs.Prelude.{◌≡◌};
 ghost use Rattle.parts.specs.Items.{item_at, absent_part, Tries};
 

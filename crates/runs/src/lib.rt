@@ -1,6 +1,7 @@
 // Digit runs and the fraction, each read from a place of the input to its last digit (parser.rs). A place past the end is the end,
 // and nothing is asked of a caller.
 #![tactic(auto)]
+
 ghost use Rattle.std.specs.Prelude.{◌≡◌, ◌+◌, ◌-◌, ◌*◌, ◌^◌, ◌<◌, ◌≤◌, length, nat_lt};
 ghost use Rattle.parser.specs.Reading.{Says};
 ghost use Rattle.parser.specs.Digits.{limit, run, at_most, run_as, up_to_nine, fraction_of, fraction, run_at};
