@@ -18,6 +18,8 @@ import sys
 DECLARED = re.compile(
     r"^ *(?:(?:abbrev|unfoldable|pub|instance) )*([^\s(){}:.,;λ]+)(?: \{[^}]*\})? :(?= )", re.M
 )
+ALIAS = re.compile(r"^use Rattle\.(?!std\.)\S+ as ([^\s(){}.,;]+)", re.M)
+HEAD = re.compile(r"([^\s(){}.,;]*)\.\Z")
 FIELD = re.compile(r"^ +pub ([^\s(){}:.,;λ]+)(?: \{[^}]*\})? :(?= )", re.M)
 WORD = re.compile(r"[^\s(){}\[\].,;:\"«»`⟦⟧]+")
 OWN = re.compile(r"^use (\S+?)\.\{([^}]*)\}", re.M)
@@ -80,10 +82,13 @@ def table():
 
 def turn(text, turned, fields=()):
     out, at = [], 0
+    heads = set(ALIAS.findall(text))
 
     def one(m):
-        name, behind = m[0], m.string[: m.start()][-1:] == "."
-        return name if behind and name not in fields else turned.get(name, name)
+        before = m.string[max(0, m.start() - 80) : m.start()]
+        head = HEAD.search(before)
+        behind = head and head[1] not in heads
+        return m[0] if behind and m[0] not in fields else turned.get(m[0], m[0])
 
     def plain(part):
         return WORD.sub(one, part)

@@ -59,7 +59,7 @@ each f (a ∷ l) = f a ∷ each f l
 
 -- the test: the rules make of every row what it states
 sixteen_compute : each computed table ≡ each stated table
-unfolding stated computed asked each table lit seq opt alt verify map give field digits_from digits_more reach lowest highest digits number_from run_as offset-rules.offsetMinute offset-rules.offsetHour offset-rules.offsetZulu offset-rules.offset time-rules.timeFraction time-rules.millisecond time-rules.secondMillisecond time-rules.minuteSecondMillisecond time-rules.behindHour time-rules.timeOffset time-rules.afterHour time-rules.baseTime time-rules.time date-rules.year date-rules.dayOfWeek date-rules.weekAndDay date-rules.mdNumeric date-rules.ordinal date-rules.dayOfMonth date-rules.monthAndDay date-rules.date datetime-rules.timeOf datetime-rules.afterDate datetime-rules.dateTime duration-rules.part duration-rules.durationBaseTime duration-rules.durationTime duration-rules.partsRule duration-rules.duration
+unfolding stated computed asked each table lit seq opt alt verify map give field digits_from digits_more reach lowest highest digits number_from run_as offset-rules.offset_minute offset-rules.offset_hour offset-rules.offset_zulu offset-rules.offset time-rules.time_fraction time-rules.millisecond time-rules.second_millisecond time-rules.minute_second_millisecond time-rules.behind_hour time-rules.time_offset time-rules.after_hour time-rules.base_time time-rules.time date-rules.year date-rules.day_of_week date-rules.week_and_day date-rules.md_numeric date-rules.ordinal date-rules.day_of_month date-rules.month_and_day date-rules.date datetime-rules.time_of datetime-rules.after_date datetime-rules.date_time duration-rules.part duration-rules.duration_base_time duration-rules.duration_time duration-rules.parts_rule duration-rules.duration
 sixteen_compute = refl
 
 -- what is said where something is named

@@ -1,6 +1,7 @@
 // Dates (date.rs): calendar, week and ordinal dates, each read from a place of the input. The year and the dash after it are read
 // once for the four alternatives, and each of these starts at the place after them.
 #![tactic(auto)]
+
 ghost use Rattle.std.specs.Prelude.{◌≡◌, true};
 ghost use Rattle.parser.specs.Reading.{alt, Says};
 ghost use Rattle.parser.specs.Read.{place_after};

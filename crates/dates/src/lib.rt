@@ -1,5 +1,6 @@
 // The two readers of a date, on the rule in crates/date: one of bytes that begin with it, one of bytes that are it as a whole.
 #![tactic(auto)]
+
 ghost use Rattle.parser.specs.Answer.{Rest};
 ghost use Rattle.date.specs.Rules.{date};
 ghost use Rattle.dates.specs.Answer.{date_reads, date_parses};

@@ -1,6 +1,7 @@
 // Durations (duration.rs). A duration whose runs have one digit or two is read by the bytes where their letters stand; any other is read
 // again from its beginning, run by run.
 #![tactic(auto)]
+
 ghost use Rattle.std.specs.Prelude.{◌≡◌, ◌+◌, ◌<◌, ◌≤◌, length, ◌≢◌, slice_index};
 ghost use Rattle.parser.specs.Reading.{no, Says};
 ghost use Rattle.duration.specs.Rules.{duration_base_time, duration_time, duration};

@@ -53,7 +53,7 @@ over_three c s t u d e m n r h k l =
     let met : ◌≡◌ {A = Option DateTime} (some p.second) (some q.first) = sym p.second_is ∙ q.first_is in
     let one : p.second ≡ q.first = cc in
     let behind = rw (ap moment_of (sym one)) at q.between in
-    moments.over-three (moment_of p.first) (moment_of p.second) (moment_of q.second) d e m n r p.between behind (of_both c s u r p.first_is q.second_is l)
+    moments.over_three (moment_of p.first) (moment_of p.second) (moment_of q.second) d e m n r p.between behind (of_both c s u r p.first_is q.second_is l)
 
 -- a text and itself
 pub itself : (c : Choices) (s : List ℕ) (d : ℤ) (n : ℕ) → Tells c s s (By d n) → By d n ≡ By (pos 0) 0

@@ -60,7 +60,7 @@ lit_past c s at h = ltb-false at (length s) (not-true (ltb at (length s)) (sym h
 
 -- the second alternative is out
 pub says_alt_out : {A : Type 0} (p q : Reader A) (s : List ℕ) (at : ℕ) (f : Found A) (m : Bool) → Says p s at f m → Out q s at → Says (alt p q) s at f m
-says_alt_out p q s at no m h o = rw (telling.or-false m) at (says_alt_no p s at q m no false h o)
+says_alt_out p q s at no m h o = rw (telling.or_false m) at (says_alt_no p s at q m no false h o)
 says_alt_out p q s at (stop r) m h o = says_alt_first p s at q (stop r) m refl h
 says_alt_out p q s at (got a n) m h o = says_alt_first p s at q (got a n) m refl h
 

@@ -133,11 +133,11 @@ time_beside : (c : Choices) (s : List ℕ) (at : ℕ) → Beside (held_time s) s
 unfolding base_time followed_time
 time_beside c s at = after_beside (hour_of c.edition) _ _ (hour_definite c.edition) (tail_beside c.edition c.reading s at)
 
-after_date_beside : (c : Choices) (d : Date) (s : List ℕ) (at : ℕ) → Beside (held_by s) s (datetime.afterDate c d) (seq (lit 84) (λ _. map (datetime.stamp d) (followed_time c))) at
-unfolding datetime.afterDate datetime.timeOf
+after_date_beside : (c : Choices) (d : Date) (s : List ℕ) (at : ℕ) → Beside (held_by s) s (datetime.after_date c d) (seq (lit 84) (λ _. map (datetime.stamp d) (followed_time c))) at
+unfolding datetime.after_date datetime.time_of
 after_date_beside c d s at = after_beside (lit 84) _ _ (lit_definite 84) (λ _ n _. map_beside (datetime.stamp d) (λ t k. refl) (time_beside c s n))
 
 -- where a date is open no `T` stands behind it
-pub stamp_beside : (c : Choices) (s : List ℕ) (at : ℕ) → Beside (held_by s) s (datetime.dateTime c) (followed c) at
-unfolding datetime.dateTime datetime.afterDate followed seq
-stamp_beside c s at = seq_beside date (datetime.afterDate c) _ (λ d n i o. rw (open_date s at d n (record { found = sym i; more = sym o }))) (λ d n _. after_date_beside c d s n)
+pub stamp_beside : (c : Choices) (s : List ℕ) (at : ℕ) → Beside (held_by s) s (datetime.date_time c) (followed c) at
+unfolding datetime.date_time datetime.after_date followed seq
+stamp_beside c s at = seq_beside date (datetime.after_date c) _ (λ d n i o. rw (open_date s at d n (record { found = sym i; more = sym o }))) (λ d n _. after_date_beside c d s n)

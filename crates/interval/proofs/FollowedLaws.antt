@@ -24,23 +24,23 @@ zeros_item = preceded_item 58 refl refl (field_item 2 0 0 refl)
 
 minute_item : (r : Reading) → Item time.bytes is_digit 2 2 Anything (zero_minute r)
 unfolding zero_minute
-minute_item r = seq_item zeros_item (λ mi. seq_tail (opt_tail zeros_item) (λ se. time.millisecond-tail (unit_of r se) true mi (or_zero se)))
+minute_item r = seq_item zeros_item (λ mi. seq_tail (opt_tail zeros_item) (λ se. time.millisecond_tail (unit_of r se) true mi (or_zero se)))
 
 behind_item : (r : Reading) → Item time.bytes is_digit 2 2 Anything (zero_behind r)
 unfolding zero_behind
 behind_item Old = minute_item Old
-behind_item Standard = alt_item (minute_item Standard) (time.point-item Hour true 0 0)
+behind_item Standard = alt_item (minute_item Standard) (time.point_item Hour true 0 0)
 
 -- ---- behind any hour
 
 pub tail_of_lem : (r : Reading) (z : Bool) (h : ℕ) → Tail time.bytes 2 (tail_of r z h)
 unfolding tail_of zero_tail
-tail_of_lem r false h = time.after-hour-tail r h
-tail_of_lem r true h = seq_tail (opt_tail (behind_item r)) (λ k. time.offset-tail h (or_whole 0 0 k))
+tail_of_lem r false h = time.after_hour_tail r h
+tail_of_lem r true h = seq_tail (opt_tail (behind_item r)) (λ k. time.offset_tail h (or_whole 0 0 k))
 
 time_item_lem : (c : Choices) → Item time.bytes is_digit 2 2 Anything (followed_time c)
 unfolding followed_time
-time_item_lem c = seq_item (time.hour-item c.edition) (λ h. tail_of_lem c.reading (ends_day c.edition h) h)
+time_item_lem c = seq_item (time.hour_item c.edition) (λ h. tail_of_lem c.reading (ends_day c.edition h) h)
 
 -- seven bytes complete the date, and `T` and an hour the date-time
 pub followed_item : (c : Choices) → Item bytes is_digit 10 10 Anything (followed c)

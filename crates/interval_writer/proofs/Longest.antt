@@ -45,7 +45,7 @@ last_interval = record { repetitions = Times 4294967295; range = ClosedEnd longe
 
 pub longest_reached : length (interval_spelling last_interval) ≡ 198
 unfolding last_interval longest repetitions_spelling range_spelling decimal_of
-longest_reached = omega (arith, interval_size last_interval, both_size (Span longest) (Stamp last_stamp), duration.longest-reached, datetime.longest-reached)
+longest_reached = omega (arith, interval_size last_interval, both_size (Span longest) (Stamp last_stamp), duration.longest_reached, datetime.longest_reached)
 
 -- some reader of each edition gives it, in either reading
 last_within : (e : Edition) (r : Reading) → interval_given (record { edition = e; reading = r }) last_interval ≡ true

@@ -115,7 +115,7 @@ open_there (kind.Time c) = empty_open (kind.Time c)
 open_there kind.Offset = open_where kind.Offset (43 ∷ []) plus_open
 open_there (kind.Stamp c) = empty_open (kind.Stamp c)
 open_there kind.Duration = empty_open kind.Duration
-open_there (kind.Interval c) = open_where (kind.Interval c) (43 ∷ []) (interval.plus-open c)
+open_there (kind.Interval c) = open_where (kind.Interval c) (43 ∷ []) (interval.plus_open c)
 
 -- so it is the least
 pub needed : (k : Kind) → Needs (bound k) k (farthest k)

@@ -4,6 +4,7 @@
 // first byte on and then from the place behind what was taken, and gets a line at a time. That this gives each line of the input once and in
 // order, however the input is cut into blocks, is `took-line` of `proofs/Laws.antt`.
 #![tactic(auto)]
+
 ghost use Rattle.std.specs.Prelude.{min, ◌≡◌};
 ghost use Rattle.lines.specs.Lines.{place_of, Takes};
 

@@ -1,5 +1,6 @@
 // Offsets from UTC (offset.rs).
 #![tactic(auto)]
+
 ghost use Rattle.std.specs.Prelude.{◌≡◌, not, ◌≤◌};
 ghost use Rattle.types.specs.Sums.{signed_offset};
 ghost use Rattle.parser.specs.Reading.{Says, got, no, pick};

@@ -1,5 +1,6 @@
 // The two readers of an offset, on the rule in crates/offset: one of bytes that begin with it, one of bytes that are it as a whole.
 #![tactic(auto)]
+
 ghost use Rattle.std.specs.Prelude.{◌≡◌};
 ghost use Rattle.parser.specs.Reading.{got};
 ghost use Rattle.parser.specs.Answer.{Rest, refused, ended};

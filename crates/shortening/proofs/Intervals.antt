@@ -102,7 +102,7 @@ module _ {A : Type 0} {w : ℕ} {p : Reader A} (hp : Trims fractions w p) (none_
 -- a duration is read the same from anywhere: it takes no comma or point
 pub duration_simulates : (f : Family) (z : Own f) → Simulates (own f z) duration
 duration_simulates zeros z = duration_trims.simulates (inl z)
-duration_simulates fractions z = foreign_simulates fractions duration duration_trims.local duration-laws.duration-bounded (λ s b y at h. (duration-laws.duration-item).lawful.steady.foreign s b y at (by_apart (Outside duration-laws.bytes) refl refl refl b h)) (inl z)
+duration_simulates fractions z = foreign_simulates fractions duration duration_trims.local duration-laws.duration_bounded (λ s b y at h. (duration-laws.duration_item_lem).lawful.steady.foreign s b y at (by_apart (Outside duration-laws.bytes) refl refl refl b h)) (inl z)
 
 -- ---- a side begins behind each `/`
 

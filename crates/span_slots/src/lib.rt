@@ -2,6 +2,7 @@
 // side is filled by the function that fills the slots of its kind, which is lent the part of the slots that begins there. The layout stands in
 // slots' specs/Slots.antt.
 #![tactic(auto)]
+
 ghost use Rattle.std.specs.Prelude.{◌≡◌, ◌∷◌, [], ◌+◌, ◌≤◌, ◌<◌, ◌^◌, pos, length};
 ghost use Rattle.std.proofs.lemmas.List.Edits.{sets};
 ghost use Rattle.parser.specs.Answer.{recorded};

@@ -20,16 +20,16 @@ abbrev clock : Reader Clock
 clock =
     seq (preceded_by 58 minute) (λ mi.
     seq (opt (preceded_by 58 second)) (λ se.
-    map (rules.orWhole mi (or_zero se)) (opt (map (with_fraction mi (or_zero se)) (seq (either 44 46) (λ _. fraction))))))
+    map (rules.or_whole mi (or_zero se)) (opt (map (with_fraction mi (or_zero se)) (seq (either 44 46) (λ _. fraction))))))
 
 -- "Hour 00 to 23; [..]; then optionally an offset."
 abbrev pub base_time : Reader Time
-base_time = seq hour (λ h. seq (opt clock) (λ c. rules.timeOffset h (rules.orWhole 0 0 c)))
+base_time = seq hour (λ h. seq (opt clock) (λ c. rules.time_offset h (rules.or_whole 0 0 c)))
 
-pub base_time_document01 : rules.baseTime document01 ≡ base_time
-unfolding rules.baseTime rules.afterHour rules.behindHour rules.minuteSecondMillisecond rules.secondMillisecond rules.millisecond rules.timeFraction
+pub base_time_document01 : rules.base_time document01 ≡ base_time
+unfolding rules.base_time rules.after_hour rules.behind_hour rules.minute_second_millisecond rules.second_millisecond rules.millisecond rules.time_fraction
 base_time_document01 = refl
 
 pub time_document01 : rules.time document01 ≡ preceded_by 84 base_time
-unfolding rules.time rules.baseTime rules.afterHour rules.behindHour rules.minuteSecondMillisecond rules.secondMillisecond rules.millisecond rules.timeFraction
+unfolding rules.time rules.base_time rules.after_hour rules.behind_hour rules.minute_second_millisecond rules.second_millisecond rules.millisecond rules.time_fraction
 time_document01 = refl

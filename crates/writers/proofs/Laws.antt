@@ -66,7 +66,7 @@ either_reading e r q (record_of.Time v) h = ends_as record_of.Time (time (under 
 either_reading e r q (record_of.Offset v) h = ends_as record_of.Offset offset (offset_spelling v) refl (read_back offset_spells v (readable_back record_of.Offset (λ a b e. cc) h))
 either_reading e r q (record_of.Stamp v) h = ends_as record_of.Stamp (date_time (under e q)) (date_time_spelling v) refl (read_back_by (date_time_spells (under e r)) (date_time_spells (under e q)) v (readable_back record_of.Stamp (λ a b e. cc) h))
 either_reading e r q (record_of.Duration v) h = ends_as record_of.Duration duration (duration_spelling v) refl (read_back duration_spells v (readable_back record_of.Duration (λ a b e. cc) h))
-either_reading e r q (record_of.Interval v) h = ends_as record_of.Interval (interval (under e q)) (interval_spelling v) refl (interval-writer.either-reading e r q v (readable_back record_of.Interval (λ a b e. cc) h))
+either_reading e r q (record_of.Interval v) h = ends_as record_of.Interval (interval (under e q)) (interval_spelling v) refl (interval-writer.either_reading e r q v (readable_back record_of.Interval (λ a b e. cc) h))
 
 -- "A whole reading of what was written gives the record back"
 pub reads_back : (c : Choices) (r : Record) → Readable (rule_of (kind_of c r)) r → Ended (rule_of (kind_of c r)) (spelling r) (recorded r (length (spelling r)))

@@ -1,5 +1,6 @@
 // What writers share: their answer, digits in a fixed width, and how many digits a number has.
 #![tactic(auto)]
+
 ghost use Rattle.std.specs.Prelude.{◌≡◌, ◌+◌, ◌%◌, ◌≤◌, nat_abs, length};
 ghost use Rattle.parser.specs.Reading.{and};
 ghost use Rattle.text.specs.Text.{Puts, decimal};

@@ -1,9 +1,5 @@
 -- `lines::place_of` meets its contract: no byte passed is the one looked for, so the answer from `i` on is the answer from `at` on.
-use Prim.Native.Nat.{◌-◌}
-use mathlib.Core.Path.{◌≡◌, refl, sym, ◌∙◌}
-use borrow.Author.Rules.{rules}
-use lib.ListN.{length}
-use Rattle.lines.specs.Lines.{place_of}
+use mathlib.Core.Path.{sym, ◌∙◌}
 use Rattle.lines.proofs.Ends.{place_here, place_later, place_none}
 use Rattle.lines.proofs.place_of.Goals as goal
 

@@ -1,10 +1,8 @@
 -- `lines::place_of` meets its contract: no byte passed is the one looked for, so the answer from `i` on is the answer from `at` on.
 use Prim.Native.Nat.{◌-◌}
-use mathlib.Core.Path.{◌≡◌, refl, sym, ◌∙◌}
-use borrow.Author.Rules.{rules}
+use mathlib.Core.Path.{◌≡◌}
 use lib.ListN.{length}
 use Rattle.lines.specs.Lines.{place_of}
-use Rattle.lines.proofs.Ends.{place_here, place_later, place_none}
 use Rattle.lines.proofs.place_of.Given as goal
 
 abbrev pub invariant-loop-i : goal.invariant-loop-i

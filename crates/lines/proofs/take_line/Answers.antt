@@ -1,27 +1,21 @@
 -- The part that is put ends where the first byte 10 stands, or with the block.
-use Prim.Native.Nat.{◌≤◌, ◌<◌}
-use mathlib.Core.Path.{◌≡◌, sym, ◌∙◌}
-use borrow.Author.Rules.{rules}
+use mathlib.Core.Path.{sym, ◌∙◌}
 use native.Mathlib.Omega.{arith}
-use lib.ListN.{length}
-use Rattle.lines.specs.declared.Ended.TheVariants.{At}
-use Rattle.lines.specs.Lines.{end_at}
 use Rattle.lines.proofs.Laws.{end_within}
-use Rattle.lines.proofs.Ends.{takes_line, takes_rest, takes_nothing}
+use Rattle.lines.proofs.Ends.{takes_nothing}
 use Rattle.lines.proofs.take_line.Goals as goal
 
-at_end : (c : tie.After-ended) → end_at c.before.before.before.before.before.args.block.now c.before.before.before.before.before.args.from ≡ At c.ended.given.0.0
-at_end c = sym c.before.before.place_of.ensures ∙ c.ended.given.1
-
--- the end that is found lies behind where the line starts, and before the end of the block
-found : (c : tie.After-ended) → (c.before.before.before.before.before.args.from ≤ c.ended.given.0.0) × (c.ended.given.0.0 < length c.before.before.before.before.before.args.block.now)
-found c = end_within _ _ _ (at_end c)
+pub slice_bounds-put-end : goal.slice_bounds-put-end
+slice_bounds-put-end c = let h = end_within _ _ _ (sym c.in-At.ensures) in omega (arith, h)
 
 pub slice_bounds-put-count : goal.slice_bounds-put-count
-slice_bounds-put-count c = (found c).0
+slice_bounds-put-count c = (end_within _ _ _ (sym c.in-At.ensures)).0
 
 pub slice_bounds-put-start : goal.slice_bounds-put-start
-slice_bounds-put-start c = omega (arith, found c)
+slice_bounds-put-start c = let h = end_within _ _ _ (sym c.in-At.ensures) in omega (arith, h)
+
+pub overflow_add-result : goal.overflow_add-result
+overflow_add-result c = let h = end_within _ _ _ (sym c.in-At.ensures) in omega (arith, h)
 
 pub returns-then-block-from : goal.returns-then-block-from
 returns-then-block-from c = takes_nothing _ _ (sym c.place_of-ended.ensures ∙ c.in-Open.is) c.if-block-from.true

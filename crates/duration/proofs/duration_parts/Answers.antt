@@ -1,0 +1,8 @@
+-- Each part is tried at the place that the one before it left, by the look there.
+use Rattle.duration.proofs.Whole.{date_made}
+use Rattle.duration.proofs.duration_parts.Goals as goal
+
+pub with_time-requires : goal.with_time-requires
+with_time-requires c =
+    let d = c.short_part-d.ensures in
+    (d.behind, date_made _ _ _ _ _ _ _ c.short_part-y.ensures c.short_part-mo.ensures c.short_part-w.ensures d)

@@ -1,0 +1,12 @@
+-- After each turn the count has the digits that were divided off, and the one that is left.
+use Prim.Native.Nat.{◌+◌, ◌≤◌}
+use mathlib.Core.Path.{◌≡◌}
+use lib.ListN.{length}
+use Rattle.text.specs.Text.{decimal}
+use Rattle.writing.proofs.decimal_length.Given as goal
+
+abbrev pub invariant-loop-rest : goal.invariant-loop-rest
+invariant-loop-rest l = (l.rest ≤ l.n) × (l.count + length (decimal l.rest) ≡ length (decimal l.n) + 1)
+
+abbrev pub decreases-loop-rest : goal.decreases-loop-rest
+decreases-loop-rest l = l.rest
