@@ -1,5 +1,6 @@
 // Times of day (time.rs).
 #![tactic(auto)]
+
 ghost use Rattle.std.specs.Prelude.{◌≡◌, true, not, ◌≤◌, eqb};
 ghost use Rattle.std.proofs.Math.Option.{none};
 ghost use Rattle.parser.specs.Reading.{Says, SaysOn, no, got, and};

@@ -2,7 +2,6 @@
 use mathlib.Core.Bool.{true, false}
 use Rattle.parser.proofs.Says.{says_seq_got, says_seq_no}
 use Rattle.time.specs.Rules.{hour_of, ends_day, base_time, after_hour}
-use borrow.Author.Rules.{rules}
 use Rattle.time.proofs.base_time.Goals as goal
 
 pub returns-in-Got : goal.returns-in-Got

@@ -1,5 +1,4 @@
 -- By the unit.
-use borrow.Author.Rules.{rules}
 use Rattle.time.proofs.clock_of.Goals as goal
 
 pub returns-in-Hour : goal.returns-in-Hour

@@ -1,5 +1,4 @@
 -- The sum, part by part.
-use borrow.Author.Rules.{rules}
 use Rattle.time.specs.Rules.{sum_of}
 use Rattle.time.proofs.sum_of.Goals as goal
 

@@ -9,7 +9,6 @@ use Rattle.parser.proofs.Says.{says_opt, says_seq_on, says_seq_stop}
 use Rattle.types.specs.declared.Reading.{Reading}
 use Rattle.time.specs.declared.Clock.{Clock}
 use Rattle.time.specs.Rules.{or_whole, behind_hour, time_offset, after_hour}
-use borrow.Author.Rules.{rules}
 use Rattle.time.proofs.time_after_hour.Goals as goal
 
 module _ (r : Reading) (z : Bool) (h : ℕ) (s : List ℕ) (at : ℕ) (f : Found Time) (l : Bool) where

@@ -2,7 +2,6 @@
 use Rattle.parser.proofs.General.{says_past}
 use Rattle.time.specs.Rules.{time, base_time}
 use Rattle.time.proofs.Laws.{base_time_eager}
-use borrow.Author.Rules.{rules}
 use Rattle.time.proofs.time_at.Goals as goal
 
 pub returns : goal.returns

@@ -2,7 +2,6 @@
 use mathlib.Core.Bool.{false}
 use mathlib.Core.Path.{refl}
 use Rattle.time.proofs.Behind.{behind_first, behind_cut, behind_none, behind_fraction}
-use borrow.Author.Rules.{rules}
 use Rattle.time.proofs.time_behind_hour.Goals as goal
 
 pub returns-in-Got : goal.returns-in-Got

@@ -15,7 +15,6 @@ use Rattle.runs.proofs.Nanoseconds.{nanoseconds_small}
 use Rattle.parser.proofs.Says.{says_map, says_seq_got, says_seq_no}
 use Rattle.time.specs.declared.TimeUnit.{TimeUnit}
 use Rattle.time.specs.Rules.{numbers_if, fraction_if, clock_of, time_fraction}
-use borrow.Author.Rules.{rules}
 use Rattle.time.proofs.time_fraction.Goals as goal
 
 module _ (u : TimeUnit) (z : Bool) (mi se : ℕ) (s : List ℕ) (at : ℕ) where
@@ -54,7 +53,7 @@ overflow_sub-next c =
 pub returns-in-Got-fraction : goal.returns-in-Got-fraction
 returns-in-Got-fraction c =
     let a = c.args in
-    let mark = rw c.in-Got.is at c.before.before.before.before.before.before.before.before.before.one_of_lem.ensures in
+    let mark = rw c.in-Got.is at c.one_of-mark.ensures in
     let frac = rw c.in-Got-fraction.is at c.fraction_at-fraction.ensures in
     rw (c.clock_of.ensures, fraction_by c.fraction_of-kept.ensures.nanosecond c.fraction_of-kept.ensures.digits)
     (marked a.unit a.zero a.minute a.second a.s.now a.at _ _ _ mark frac)
@@ -62,30 +61,30 @@ returns-in-Got-fraction c =
 pub returns-in-TooBig : goal.returns-in-TooBig
 returns-in-TooBig c =
     let a = c.args in
-    let mark = rw c.in-Got.is at c.before.before.before.before.before.before.one_of_lem.ensures in
+    let mark = rw c.in-Got.is at c.one_of-mark.ensures in
     let frac = rw c.in-TooBig.is at c.fraction_at-fraction.ensures in
     marked a.unit a.zero a.minute a.second a.s.now a.at _ (stop 1) false mark frac
 
 pub returns-in-Wrong-fraction : goal.returns-in-Wrong-fraction
 returns-in-Wrong-fraction c =
     let a = c.args in
-    let mark = rw c.in-Got.is at c.before.before.before.before.before.before.one_of_lem.ensures in
+    let mark = rw c.in-Got.is at c.one_of-mark.ensures in
     let frac = rw c.in-Wrong-fraction.is at c.fraction_at-fraction.ensures in
     marked a.unit a.zero a.minute a.second a.s.now a.at _ no false mark frac
 
 pub returns-in-Cut-fraction : goal.returns-in-Cut-fraction
 returns-in-Cut-fraction c =
     let a = c.args in
-    let mark = rw c.in-Got.is at c.before.before.before.before.before.before.one_of_lem.ensures in
+    let mark = rw c.in-Got.is at c.one_of-mark.ensures in
     let frac = rw c.in-Cut-fraction.is at c.fraction_at-fraction.ensures in
     marked a.unit a.zero a.minute a.second a.s.now a.at _ no true mark frac
 
 pub returns-in-Wrong : goal.returns-in-Wrong
 returns-in-Wrong c =
     let a = c.args in
-    unmarked a.unit a.zero a.minute a.second a.s.now a.at false (rw c.in-Wrong.is at c.before.before.one_of_lem.ensures)
+    unmarked a.unit a.zero a.minute a.second a.s.now a.at false (rw c.in-Wrong.is at c.one_of-mark.ensures)
 
 pub returns-in-Cut : goal.returns-in-Cut
 returns-in-Cut c =
     let a = c.args in
-    unmarked a.unit a.zero a.minute a.second a.s.now a.at true (rw c.in-Cut.is at c.before.before.one_of_lem.ensures)
+    unmarked a.unit a.zero a.minute a.second a.s.now a.at true (rw c.in-Cut.is at c.one_of-mark.ensures)

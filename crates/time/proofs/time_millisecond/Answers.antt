@@ -10,7 +10,6 @@ use Rattle.time.specs.declared.Clock.{Clock}
 use Rattle.time.specs.declared.TimeUnit.{TimeUnit}
 use Rattle.time.specs.Rules.{or_whole, time_fraction, millisecond}
 use Rattle.time.proofs.Unmarked.{mark, no_fraction}
-use borrow.Author.Rules.{rules}
 use Rattle.time.proofs.time_millisecond.Goals as goal
 
 module _ (u : TimeUnit) (z : Bool) (mi se : ℕ) (s : List ℕ) (at : ℕ) (b m : Bool) where

@@ -7,7 +7,6 @@ use Rattle.parser.proofs.Says.{says_seq_got, says_seq_no, says_seq_stop}
 use Rattle.fields.specs.declared.Number.TheVariants.{Got}
 use Rattle.time.specs.Rules.{zero_if, minute_second_millisecond, second_millisecond}
 use Rattle.time.proofs.Zero.{left_out, passes, refuses}
-use borrow.Author.Rules.{rules}
 use Rattle.time.proofs.time_minute_second_millisecond.Goals as goal
 
 pub returns-then-stops : goal.returns-then-stops

@@ -10,7 +10,6 @@ use Rattle.parser.proofs.Says.{or_false, or_true, says_opt, says_on, on_map}
 use Rattle.offset.specs.Rules.{offset}
 use Rattle.time.specs.declared.Clock.{Clock}
 use Rattle.time.specs.Rules.{time_of, time_offset}
-use borrow.Author.Rules.{rules}
 use Rattle.time.proofs.time_offset.Goals as goal
 
 made : (h : ℕ) (k : Clock) (s : List ℕ) (at : ℕ) (b m : Bool) (o : Option Offset) (n : ℕ) (l : Bool) → Says (opt offset) s at (got o n) l → m ≡ or b l → SaysOn b (time_offset h k) s at (got (time_of h k o) n) m

@@ -8,7 +8,6 @@ use Rattle.fields.specs.declared.Part.{Part}
 use Rattle.fields.proofs.LeftOut.{left_out}
 use Rattle.time.specs.Rules.{zero_if, unit_of, second_millisecond, millisecond}
 use Rattle.time.proofs.Zero.{passes, refuses, unmarked}
-use borrow.Author.Rules.{rules}
 use Rattle.time.proofs.time_second_millisecond.Goals as goal
 
 pub returns-then-stops : goal.returns-then-stops
@@ -23,7 +22,7 @@ pub time_millisecond-requires : goal.time_millisecond-requires
 time_millisecond-requires c =
     let a = c.args in
     let number = c.after_colon-found in
-    (c.requires, rw c.or_left_out-second.ensures (unmarked a.s.now a.at number.result number.ensures))
+    record { minute_bound = c.requires; at_value = rw c.or_left_out-second.ensures (unmarked a.s.now a.at number.result number.ensures) }
 
 pub returns : goal.returns
 unfolding second_millisecond

@@ -1,7 +1,6 @@
 -- By the clock, the milliseconds and what stands behind them.
 use borrow.Author.Tests.{lt-ltb, le-ltb}
 use Rattle.time.specs.Plain.{plain_time}
-use borrow.Author.Rules.{rules}
 use Rattle.time.proofs.plain.plain_time.Goals as goal
 
 pub returns-then-millisecond-gt999 : goal.returns-then-millisecond-gt999

@@ -1,7 +1,6 @@
 -- The plain forms by their law, anything else by the rule.
 use mathlib.Core.Path.{sym}
 use Rattle.time.proofs.plain.Laws.{plain_says}
-use borrow.Author.Rules.{rules}
 use Rattle.time.proofs.plain.time_begun.Goals as goal
 
 pub returns-in-Got : goal.returns-in-Got
