@@ -1,6 +1,6 @@
 -- Dates are read back from their spelling, whatever follows: the dash decides between the alternatives, and then `W`, or how many digits stand
 -- behind it.
-use Prim.Native.Nat.{ℕ, suc, ◌+◌, ◌≤◌}
+use Prim.Native.Nat.{ℕ, suc, ◌≤◌}
 use mathlib.Core.List.{List, [], ◌∷◌, ◌++◌, append_assoc}
 use mathlib.Core.Bool.{true}
 use mathlib.Core.Option.{Option, some, none}

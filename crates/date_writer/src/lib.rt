@@ -1,5 +1,6 @@
 // The writer of dates: `YYYY-MM-DD`, `YYYY-Www-D` or `YYYY-DDD`, with `-` in front of a negative year.
 #![tactic(auto)]
+
 ghost use Rattle.std.specs.Prelude.{◌≡◌, length};
 ghost use Rattle.parser.specs.Reading.{within};
 ghost use Rattle.date.specs.Rules.{date};

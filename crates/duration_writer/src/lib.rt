@@ -1,5 +1,6 @@
 // The writer of durations: `P` and the parts that are not 0, with `T` before time parts; `PT0S` where all are 0.
 #![tactic(auto)]
+
 ghost use Rattle.std.specs.Prelude.{ℕ, ◌≤◌, ◌≡◌, length};
 ghost use Rattle.duration.specs.Rules.{duration};
 ghost use Rattle.text.specs.Text.{Puts};

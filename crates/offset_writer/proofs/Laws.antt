@@ -10,8 +10,8 @@ use lib.IntN.{nat_abs}
 use Rattle.types.specs.declared.Offset.{Offset}
 use Rattle.types.specs.Sums.{signed_offset, made}
 use Rattle.types.proofs.Laws.{Signed, one_sign_only, made_is_proper}
-use Rattle.parser.specs.Reading.{lit, and}
-use Rattle.parser.specs.Fields.{hour, minute, signed, or_zero}
+use Rattle.parser.specs.Reading.{lit}
+use Rattle.parser.specs.Fields.{signed, or_zero}
 use Rattle.parser.proofs.Fields.{and_first, and_second}
 use Rattle.offset.specs.Rules.{allowed, offset_minute, offset_hour, offset_zulu, offset}
 use Rattle.writing.specs.Spelling.{padded, sign_byte, shift_spelling, offset_spelling}

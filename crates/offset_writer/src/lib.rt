@@ -1,5 +1,6 @@
 // The writer of offsets: `Z`, or a signed `HH:MM`.
 #![tactic(auto)]
+
 ghost use Rattle.std.specs.Prelude.{◌≡◌};
 ghost use Rattle.types.specs.Sums.{same_sign};
 ghost use Rattle.parser.specs.Reading.{or};

@@ -9,20 +9,17 @@ use Rattle.date_writer.proofs.date_given.Goals as goal
 pub returns-in-YMD : goal.returns-in-YMD
 unfolding date_given
 returns-in-YMD c =
-    let v = c.d-1.given in
-    let fits : SFits w32 v.0.0 = search rules in
-    rw v.1 (rw (c.year_given.ensures, c.both.ensures, c.within-in-YMD.ensures, c.within.ensures, read fits) at c.both-in-YMD.ensures)
+    let fits : SFits w32 c.in-YMD.year = search rules in
+    rw c.in-YMD.is (rw (c.year_given.ensures, c.both.ensures, c.within-in-YMD.ensures, c.within.ensures, read fits) at c.both-in-YMD.ensures)
 
 pub returns-in-Week : goal.returns-in-Week
 unfolding date_given
 returns-in-Week c =
-    let v = c.d-in-Week-1.given in
-    let fits : SFits w32 v.0.0 = search rules in
-    rw v.1 (rw (c.year_given-in-Week.ensures, c.both-in-Week.ensures, c.within-in-Week-2.ensures, c.within-in-Week.ensures, read fits) at c.both-in-Week-2.ensures)
+    let fits : SFits w32 c.in-Week.year = search rules in
+    rw c.in-Week.is (rw (c.year_given-in-Week.ensures, c.both-in-Week.ensures, c.within-in-Week-2.ensures, c.within-in-Week.ensures, read fits) at c.both-in-Week-2.ensures)
 
 pub returns-in-Ordinal : goal.returns-in-Ordinal
 unfolding date_given
 returns-in-Ordinal c =
-    let v = c.d-in-Ordinal-1.given in
-    let fits : SFits w32 v.0.0 = search rules in
-    rw v.1 (rw (c.year_given-in-Ordinal.ensures, c.within-in-Ordinal.ensures, read fits) at c.both-in-Ordinal.ensures)
+    let fits : SFits w32 c.in-Ordinal.year = search rules in
+    rw c.in-Ordinal.is (rw (c.year_given-in-Ordinal.ensures, c.within-in-Ordinal.ensures, read fits) at c.both-in-Ordinal.ensures)

@@ -19,21 +19,18 @@ few y e h = record { fits = omega (arith, year_short y) }
 
 pub returns-in-YMD : goal.returns-in-YMD
 returns-in-YMD c =
-    let v = c.d-1.given in
-    let fits : SFits w32 v.0.0 = search rules in
-    long_measures (readable date_spells _ (sym c.date_given.ensures ∙ c.if-date_given.true)) (rw (v.1, c.year_length.ensures, read fits) (sym (calendar_size v.0.0 _ _)))
+    let fits : SFits w32 c.in-YMD.year = search rules in
+    long_measures (readable date_spells _ (sym c.date_given.ensures ∙ c.if-date_given.true)) (rw (c.in-YMD.is, c.year_length.ensures, read fits) (sym (calendar_size c.in-YMD.year _ _)))
 
 pub returns-in-Week : goal.returns-in-Week
 returns-in-Week c =
-    let v = c.d-in-Week-1.given in
-    let fits : SFits w32 v.0.0 = search rules in
-    long_measures (readable date_spells _ (sym c.date_given.ensures ∙ c.if-date_given.true)) (rw (v.1, c.year_length-in-Week.ensures, read fits) (sym (week_size v.0.0 _ _)))
+    let fits : SFits w32 c.in-Week.year = search rules in
+    long_measures (readable date_spells _ (sym c.date_given.ensures ∙ c.if-date_given.true)) (rw (c.in-Week.is, c.year_length-in-Week.ensures, read fits) (sym (week_size c.in-Week.year _ _)))
 
 pub returns-in-Ordinal : goal.returns-in-Ordinal
 returns-in-Ordinal c =
-    let v = c.d-in-Ordinal-1.given in
-    let fits : SFits w32 v.0.0 = search rules in
-    long_measures (readable date_spells _ (sym c.date_given.ensures ∙ c.if-date_given.true)) (rw (v.1, c.year_length-in-Ordinal.ensures, read fits) (sym (ordinal_size v.0.0 _)))
+    let fits : SFits w32 c.in-Ordinal.year = search rules in
+    long_measures (readable date_spells _ (sym c.date_given.ensures ∙ c.if-date_given.true)) (rw (c.in-Ordinal.is, c.year_length-in-Ordinal.ensures, read fits) (sym (ordinal_size c.in-Ordinal.year _)))
 
 pub overflow_add-result : goal.overflow_add-result
 overflow_add-result c = few _ c.year_length.ensures (omega arith)

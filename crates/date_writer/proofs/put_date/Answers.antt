@@ -10,23 +10,20 @@ use Rattle.date_writer.proofs.put_date.Goals as goal
 pub returns-in-YMD : goal.returns-in-YMD
 unfolding date_spelling
 returns-in-YMD c =
-    let v = c.d-1.given in
-    let fits : SFits w32 v.0.0 = search rules in
-    rw v.1
+    let fits : SFits w32 c.in-YMD.year = search rules in
+    rw c.in-YMD.is
     (then_puts (then_puts (rw (read fits) at c.put_year-next.ensures) (then_puts c.put_byte-next.ensures c.put_two-next.ensures)) (then_puts c.put_byte-next-in-YMD.ensures c.put_two.ensures))
 
 pub returns-in-Week : goal.returns-in-Week
 unfolding date_spelling padded
 returns-in-Week c =
-    let v = c.d-in-Week-1.given in
-    let fits : SFits w32 v.0.0 = search rules in
-    rw v.1
+    let fits : SFits w32 c.in-Week.year = search rules in
+    rw c.in-Week.is
     (then_puts (then_puts (rw (read fits) at c.put_year-next-in-Week.ensures) (then_puts c.put_byte-next-in-Week.ensures (then_puts c.put_byte-next-in-Week-2.ensures c.put_two-next-in-Week.ensures)))
     (then_puts c.put_byte-next-in-Week-3.ensures (rw c.last_digit.ensures at c.put_byte.ensures)))
 
 pub returns-in-Ordinal : goal.returns-in-Ordinal
 unfolding date_spelling
 returns-in-Ordinal c =
-    let v = c.d-in-Ordinal-1.given in
-    let fits : SFits w32 v.0.0 = search rules in
-    rw v.1 (then_puts (rw (read fits) at c.put_year-next-in-Ordinal.ensures) (then_puts c.put_byte-next-in-Ordinal.ensures c.put_three.ensures))
+    let fits : SFits w32 c.in-Ordinal.year = search rules in
+    rw c.in-Ordinal.is (then_puts (rw (read fits) at c.put_year-next-in-Ordinal.ensures) (then_puts c.put_byte-next-in-Ordinal.ensures c.put_three.ensures))

@@ -1,5 +1,4 @@
 -- Four digits are two and two.
-use borrow.Author.Rules.{rules}
 use Rattle.text.proofs.Laws.{then_puts}
 use Rattle.writing.proofs.Digits.{padded_split, padded_hundred}
 use Rattle.date_writer.proofs.put_four.Goals as goal

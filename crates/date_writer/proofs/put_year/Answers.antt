@@ -1,6 +1,5 @@
 -- A minus where the year is negative, and its four digits.
 use mathlib.Core.Bool.{true, false}
-use borrow.Author.Rules.{rules}
 use Rattle.text.proofs.Sizes.{read}
 use Rattle.text.proofs.Laws.{then_puts}
 use Rattle.writing.specs.Spelling.{year_spelling}

@@ -1,7 +1,6 @@
 -- Four bytes, or those of the parts, `P`, and `T` where it stands.
 use mathlib.Core.List.{[], ◌∷◌}
 use native.Mathlib.Omega.{arith}
-use borrow.Author.Rules.{rules}
 use lib.ListN.{length-append}
 use Rattle.writing.specs.Spelling.{date_parts, time_parts, duration_spelling}
 use Rattle.duration_writer.proofs.Sizes.{behind_t_lem}

@@ -1,5 +1,4 @@
 -- The four parts are put one behind the other.
-use borrow.Author.Rules.{rules}
 use Rattle.text.proofs.Laws.{then_puts}
 use Rattle.writing.specs.Spelling.{date_parts}
 use Rattle.duration_writer.proofs.put_date.Goals as goal

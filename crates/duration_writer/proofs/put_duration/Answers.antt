@@ -1,5 +1,4 @@
 -- `PT0S`, or `P` and then the date parts and the time parts.
-use borrow.Author.Rules.{rules}
 use Rattle.text.proofs.Laws.{then_puts}
 use Rattle.writing.specs.Spelling.{duration_spelling}
 use Rattle.duration_writer.proofs.put_duration.Goals as goal

@@ -1,5 +1,4 @@
 -- Nothing, or the digits and then the letter.
-use borrow.Author.Rules.{rules}
 use borrow.Author.Tests.{eq-eqb}
 use native.Mathlib.Omega.{arith}
 use Rattle.text.proofs.Laws.{then_puts, puts_nothing}

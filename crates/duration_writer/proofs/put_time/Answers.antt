@@ -1,5 +1,4 @@
 -- Nothing, or the `T` and the three parts one behind the other.
-use borrow.Author.Rules.{rules}
 use Rattle.text.proofs.Laws.{then_puts, puts_nothing}
 use Rattle.writing.specs.Spelling.{time_parts}
 use Rattle.duration_writer.proofs.Sizes.{behind_t_lem}

@@ -7,16 +7,15 @@ use Rattle.writing.proofs.Laws.{readable, short_writes, put_writes}
 use Rattle.duration_writer.proofs.Within.{Within, within_given}
 use Rattle.duration_writer.proofs.Laws.{duration_spells}
 use Rattle.duration_writer.proofs.write_duration.Goals as goal
-use Rattle.duration_writer.proofs.write_duration.Goals.{Start}
-
-given : (c : Start) → Readable duration c.args.d
-given c =
-    let fits : Within c.args.d = record { years = search rules; months = search rules; weeks = search rules; days = search rules; hours = search rules; minutes = search rules; seconds = search rules } in
-    readable duration_spells _ (within_given _ fits)
 
 pub returns-then-buffer-count : goal.returns-then-buffer-count
-returns-then-buffer-count c = short_writes (given c) c.duration_length-count.ensures (omega (arith, c.if-buffer-count.true))
+returns-then-buffer-count c =
+    let fits : Within c.args.d = record { years = search rules; months = search rules; weeks = search rules; days = search rules; hours = search rules; minutes = search rules; seconds = search rules } in
+    let given : Readable duration c.args.d = readable duration_spells _ (within_given _ fits) in
+    short_writes given c.duration_length-count.ensures (omega (arith, c.if-buffer-count.true))
 
 pub returns : goal.returns
 returns c =
-    put_writes (given c) c.duration_length-count.ensures (omega (arith, c.if-buffer-count.false)) c.put_duration.ensures
+    let fits : Within c.args.d = record { years = search rules; months = search rules; weeks = search rules; days = search rules; hours = search rules; minutes = search rules; seconds = search rules } in
+    let given : Readable duration c.args.d = readable duration_spells _ (within_given _ fits) in
+    put_writes given c.duration_length-count.ensures (omega (arith, c.if-buffer-count.false)) c.put_duration.ensures
