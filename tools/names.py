@@ -20,7 +20,7 @@ DECLARED = re.compile(
 )
 ALIAS = re.compile(r"^use Rattle\.(?!std\.)\S+ as ([^\s(){}.,;]+)", re.M)
 HEAD = re.compile(r"([^\s(){}.,;]*)\.\Z")
-FIELD = re.compile(r"^ +pub ([^\s(){}:.,;λ]+)(?: \{[^}]*\})? :(?= )", re.M)
+FIELD = re.compile(r"^ +(?:pub )?([^\s(){}:.,;λ]+)(?: \{[^}]*\})? :(?= )", re.M)
 WORD = re.compile(r"[^\s(){}\[\].,;:\"«»`⟦⟧]+")
 OWN = re.compile(r"^use (\S+?)\.\{([^}]*)\}", re.M)
 PIECES = re.compile(r'"(?:[^"\\\n]|\\.)*"|(?<![^\s(){}.;,])--[^\n]*|//[^\n]*')

@@ -1,6 +1,7 @@
 // The day of a date, by closed forms. Days are counted from 1 January of the year -2,147,484,000, so that no number is negative; the calendar
 // itself stands in specs/Calendar.antt, by counting.
 #![tactic(auto)]
+
 ghost use Rattle.std.specs.Prelude.{◌≡◌, ◌+◌, ◌≤◌, ◌<◌, pos, ◌+ℤ◌, take};
 ghost use Rattle.calendar.specs.Calendar.{months, sum};
 ghost use Rattle.types.specs.declared.Date.TheVariants.{YMD, Week, Ordinal};

@@ -1,5 +1,6 @@
 // Date-times (datetime.rs): a date, one `T`, a time.
 #![tactic(auto)]
+
 ghost use Rattle.std.specs.Prelude.{◌≡◌, true};
 ghost use Rattle.parser.specs.Reading.{Says, SaysOn, lit, no};
 ghost use Rattle.datetime.specs.Rules.{time_of, after_date, date_time};

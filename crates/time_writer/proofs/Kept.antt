@@ -129,7 +129,7 @@ point_kept u z mi se s at c n e =
     let x = seq_found (either 44 46) (λ _. fraction_if z) s at m.value n m.reads in
     let p = point_place s at x.value x.place x.first in
     let d = run_of z s (at + 1) m.value n (rw (← p) at x.rest) in
-    rw (← m.is, ← d.is) (go u (rw (← p) at x.first) d.ends d.some-digit)
+    rw (← m.is, ← d.is) (go u (rw (← p) at x.first) d.ends d.some_digit)
   where
     go : (u : TimeUnit) → (either 44 46).reads s at ≡ got tt (at + 1) → at + 1 + length (run_at s (at + 1)) ≡ n → 0 < length (run_at s (at + 1)) → Keeps u mi se s at (clock_of u mi se (fraction_of (run_at s (at + 1)))) n
     go Hour point ends some_digit = counted hour_not_second point ends refl

@@ -87,7 +87,7 @@ unfolding fraction_spelling time_fraction
 fraction_is z m s f x w b = go (eqb f.digits 0) refl
   where
     go : (t : Bool) → eqb f.digits 0 ≡ t → Fractional z m s f x
-    go true e = record { value = none; is = rw (no_digits f (fraction_day z w) (eqb-true f.digits 0 e)); reads = rw e (opt_lacks (map_refuses _ (seq_refuses _ (alt_refuses b.no-comma b.no-point)))) }
+    go true e = record { value = none; is = rw (no_digits f (fraction_day z w) (eqb-true f.digits 0 e)); reads = rw e (opt_lacks (map_refuses _ (seq_refuses _ (alt_refuses b.no_comma b.no_point)))) }
     go false e =
         let k = f.digits in
         let n = f.nanosecond in

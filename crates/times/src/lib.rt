@@ -1,5 +1,6 @@
 // The two readers of a time of day, on the rule in crates/time: one of bytes that begin with it, one of bytes that are it as a whole.
 #![tactic(auto)]
+
 ghost use Rattle.std.specs.Prelude.{◌≡◌};
 ghost use Rattle.parser.specs.Reading.{got};
 ghost use Rattle.parser.specs.Answer.{Rest, refused, ended};

@@ -1,8 +1,7 @@
 -- The table's rule at the month, and a day more behind February in a leap year.
 use mathlib.Core.Path.{sym, ◌∙◌}
 use native.Mathlib.Omega.{arith}
-use borrow.Author.Rules.{rules}
-use Rattle.calendar.proofs.Months.{table_at, later_in_leap, before_in_leap, table_below}
+use Rattle.calendar.proofs.Months.{table_at, later_in_leap, before_in_leap}
 use Rattle.calendar.proofs.before_month.Goals as goal
 
 pub returns-then-month-lt3 : goal.returns-then-month-lt3

@@ -1,8 +1,7 @@
 -- By the month, the day, and the days between the month's first and the next one's.
 use native.Mathlib.Omega.{arith}
-use borrow.Author.Rules.{rules}
 use mir.Facts.{to_z-of_z}
-use Rattle.calendar.proofs.Dates.{beyond, no_day_lem, below, in_order, late, calendar}
+use Rattle.calendar.proofs.Dates.{in_order, late, calendar}
 use Rattle.calendar.proofs.calendar_day.Goals as goal
 
 pub overflow_sub-to : goal.overflow_sub-to

@@ -7,6 +7,5 @@ use Rattle.calendar.proofs.day_of.Goals as goal
 
 pub returns-in-YMD : goal.returns-in-YMD
 returns-in-YMD c =
-    let v = c.date-1.given in
-    let fits : SFits w32 v.0.0 = search rules in
-    rw v.1 (rw (to_z-of_z fits) at c.calendar_day.ensures)
+    let fits : SFits w32 c.in-YMD.year = search rules in
+    rw c.in-YMD.is (rw (to_z-of_z fits) at c.calendar_day.ensures)

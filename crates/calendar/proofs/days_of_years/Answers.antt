@@ -1,6 +1,5 @@
 -- The law of the closed form.
 use native.Mathlib.Omega.{arith}
-use borrow.Author.Rules.{rules}
 use Rattle.calendar.proofs.Years.{by_quotients}
 use Rattle.calendar.proofs.days_of_years.Goals as goal
 

@@ -1,6 +1,5 @@
 -- By the day and the days of the year.
 use native.Mathlib.Omega.{arith}
-use borrow.Author.Rules.{rules}
 use mir.Facts.{to_z-of_z}
 use Rattle.calendar.proofs.Dates.{none_counted, past, ordinal}
 use Rattle.calendar.proofs.ordinal_day.Goals as goal

@@ -1,6 +1,5 @@
 -- From 4 January back to a Monday, and on from there.
 use native.Mathlib.Omega.{arith}
-use borrow.Author.Rules.{rules}
 use mir.Facts.{to_z-of_z}
 use Rattle.calendar.proofs.Dates.{week}
 use Rattle.calendar.proofs.week_day.Goals as goal

@@ -1,7 +1,6 @@
 -- The years from the first are the calendar's.
 use mathlib.Core.Path.{sym, ap, ◌∙◌}
 use native.Mathlib.Omega.{arith}
-use borrow.Author.Rules.{rules}
 use mir.Facts.{to_z-of_z}
 use Rattle.calendar.specs.Calendar.{leap, new_year}
 use Rattle.calendar.proofs.Integers.{◌⊖◌}
