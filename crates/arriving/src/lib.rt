@@ -19,7 +19,7 @@ pub const ROOM: usize = 200;
 // So many bytes are accepted, at most.
 pub const MOST: usize = 4294967295;
 
-// The kept bytes and the place of each in the input, how many they are, what the last of them tell (`nextMark`), and how many were accepted.
+// The kept bytes and the place of each in the input, how many they are, what the last of them tell (`next_mark`), and how many were accepted.
 #[derive(Clone, Copy)]
 pub struct State {
     pub kind: Kind,

@@ -16,7 +16,7 @@ use Rattle.words.specs.Records.{verdict_word}
 use Rattle.reply.specs.Line.{record_or_dash, question_of, text_in}
 
 -- "The text is cut into pieces by byte 124 (`|`)": the parts that such a byte ends, and the rest behind the last. That a split is right is
--- proved of lines for any byte: put together again its parts are the text (`Joined-by`), and none has the byte in it (`free-by`).
+-- proved of lines for any byte: put together again its parts are the text (`joined_by`), and none has the byte in it (`free_by`).
 abbrev pub pieces_of : Split → List (List ℕ)
 pieces_of p = p.finished ++ p.rest ∷ []
 

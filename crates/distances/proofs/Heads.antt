@@ -1,5 +1,5 @@
--- The four heads: `headOf` finds the one that a line begins with, so that it begins with no other; and where the letter and the space stand
--- about what `headOf` finds, the line begins with that.
+-- The four heads: `head_of` finds the one that a line begins with, so that it begins with no other; and where the letter and the space stand
+-- about what `head_of` finds, the line begins with that.
 use Prim.Native.Nat.{ℕ, suc, ◌-◌, ◌≤◌, ◌<◌}
 use mathlib.Core.Bool.{Bool, true, false}
 use mathlib.Core.List.{List, ◌∷◌, ◌++◌}
@@ -40,7 +40,7 @@ head_once c c' x x' e =
     let behind = sym (drop-append_seam h (32 ∷ x)) ∙ ap (drop (length h)) (e ∙ ap (λ (d : Choices). heading d.edition d.reading ++ 32 ∷ x') (sym same)) ∙ drop-append_seam h (32 ∷ x') in
     (same, ap (drop 1) behind)
 
--- the letter `s` stands first, and a space last in the head that `headOf` finds
+-- the letter `s` stands first, and a space last in the head that `head_of` finds
 pub record Headed (l : List ℕ) : Type 0 where
   pub long : (head_of l).from ≤ length l
   pub letter : get_or l 0 0 ≡ 115

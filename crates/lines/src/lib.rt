@@ -2,7 +2,7 @@
 //
 // A program holds the beginning of the line that no byte 10 has ended yet in a buffer of its own. It gives each block to `take_line`, from the
 // first byte on and then from the place behind what was taken, and gets a line at a time. That this gives each line of the input once and in
-// order, however the input is cut into blocks, is `took-line` of `proofs/Laws.antt`.
+// order, however the input is cut into blocks, is `took_line` of `proofs/Laws.antt`.
 #![tactic(auto)]
 
 ghost use Rattle.std.specs.Prelude.{min, ◌≡◌};

@@ -1,7 +1,7 @@
 // The output: bytes that are put one behind the other into a buffer of the caller's.
 //
 // Each function here takes the place of the next byte and returns the place behind what it put. What does not fit is left out, so that no
-// caller has to promise room. That nothing is left out where there is room for all of it is `puts-fits` of `proofs/Laws.antt`.
+// caller has to promise room. That nothing is left out where there is room for all of it is `puts_fits` of `proofs/Laws.antt`.
 #![tactic(auto)]
 
 ghost use Rattle.std.specs.Prelude.{[], ◌∷◌};

@@ -1,7 +1,7 @@
 -- Document 01's rule of times, and beside it those of two requests. W5: "The caller names 2004 or 2019. 2019 is document 01 as it stands". What
 -- it adds asks whether the hour ends the day, and under 2019 none does. W8: "a standard reading beside the old one"; what it adds asks for the
 -- reading, and the old one is document 01's (`proofs/Document.antt`). Request W7's digits stand beside the nanoseconds: "for this one document
--- 01's time rule is extended" (`fractionOf` in `parser/specs/Digits`).
+-- 01's time rule is extended" (`fraction_of` in `parser/specs/Digits`).
 use Rattle.std.specs.Prelude.{ℕ, ◌+◌, ◌*◌, ◌/◌, ◌%◌, Bool, true, false, eqb}
 use Rattle.std.proofs.Math.Option.{Option, some, none}
 use Rattle.types.specs.declared.Choices.{Choices}

@@ -1,5 +1,6 @@
 // The writer of times: `HH:MM:SS`, the digits of the fraction that were written, and the offset.
 #![tactic(auto)]
+
 ghost use Rattle.std.specs.Prelude.{ℕ, ◌-◌, ◌/◌, ◌^◌, ◌≤◌, ◌≡◌, length};
 ghost use Rattle.parser.specs.Digits.{up_to_nine};
 ghost use Rattle.time.specs.Rules.{time};

@@ -41,7 +41,7 @@ same_sign_lem true (suc h) zero = refl
 same_sign_lem true zero (suc m) = refl
 same_sign_lem true (suc h) (suc m) = refl
 
--- and only such offsets have one sign: `sameSign` is the paper's "the same sign, or are zero", no more and no less
+-- and only such offsets have one sign: `same_sign` is the paper's "the same sign, or are zero", no more and no less
 pub record Signed (o : Offset) : Type 0 where
   pub minus : Bool
   pub hour : ℕ

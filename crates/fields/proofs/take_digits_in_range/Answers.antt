@@ -1,4 +1,4 @@
--- Turn by turn the loop reads as `digitsFrom` does; a number past the range ends it early, since no digit brings it back.
+-- Turn by turn the loop reads as `digits_from` does; a number past the range ends it early, since no digit brings it back.
 use Prim.Native.Nat.{ℕ, ◌+◌, ◌*◌, ◌-◌, ◌<◌, ◌≤◌}
 use mathlib.Core.List.{List}
 use mathlib.Core.Bool.{Bool, true, false}
