@@ -1,5 +1,6 @@
 // The writer of date-times: the date, `T`, and the time in the part of the buffer that begins behind them.
 #![tactic(auto)]
+
 ghost use Rattle.std.specs.Prelude.{◌≤◌, ◌≡◌, length};
 ghost use Rattle.datetime.specs.Rules.{date_time};
 ghost use Rattle.writing.specs.Spelling.{date_time_spelling};

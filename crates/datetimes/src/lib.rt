@@ -1,5 +1,6 @@
 // The two readers of a date-time, on the rule in crates/datetime: one of bytes that begin with it, one of bytes that are it as a whole.
 #![tactic(auto)]
+
 ghost use Rattle.parser.specs.Answer.{Rest};
 ghost use Rattle.datetime.specs.Rules.{date_time};
 ghost use Rattle.datetimes.specs.Answer.{date_time_reads, date_time_parses};

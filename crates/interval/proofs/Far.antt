@@ -31,7 +31,6 @@ use Rattle.date.specs.Answer.{after_year}
 use Rattle.date.proofs.Laws.{after_year_takes, date_alike, date_takes}
 use Rattle.datetime.specs.Rules.{stamp}
 use Rattle.datetime.proofs.Laws.{datetime_too_few}
-use Rattle.duration.specs.Rules.{duration}
 use Rattle.duration.proofs.Laws.{duration_too_few}
 use Rattle.interval.specs.Rules.{repeated, repetitions, no_form_fails, tried}
 use Rattle.interval.specs.Rules as rules

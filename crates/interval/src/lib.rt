@@ -1,6 +1,7 @@
 // Intervals (interval.rs), by request W12: a repeat that may be absent, and date-times and durations, two with a `/` between them or a
 // duration alone. A date-time that stands first in two alternatives is read once, and so is a duration.
 #![tactic(auto)]
+
 ghost use Rattle.std.specs.Prelude.{true, not, ◌≡◌};
 ghost use Rattle.parser.specs.Reading.{Says, SaysOn, lit, map, and, no};
 ghost use Rattle.types.specs.declared.IntervalRange.TheVariants as range;

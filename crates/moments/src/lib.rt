@@ -1,5 +1,6 @@
 // The moment of a date-time, and how far two are apart. Seconds are counted from far back, so that none is negative before two are subtracted.
 #![tactic(auto)]
+
 ghost use Rattle.std.specs.Prelude.{◌≡◌, ◌<◌, pos, ◌+ℤ◌, ◌-ℤ◌};
 ghost use Rattle.std.proofs.Math.Option.{some};
 ghost use Rattle.types.specs.Sums.{minutes_in_all};

@@ -1,17 +1,20 @@
 // Tells that a program failed.
 //
-// A program has no exit status of its own: where a read or a write fails it writes a line to standard error, which names what failed and why,
-// and the byte `1` to descriptor 3, of which the launcher makes status 1.
+// Where a read or a write fails, a program writes a line to standard error, which names what failed and why, and ends with status 1.
 #![tactic(auto)]
-use text::put;
 
-const STATUS_FILENO: i32 = 3;
+ghost use Rattle.std.specs.Prelude.{◌≡◌};
+ghost use Rattle.std.specs.Process.{exit_status};
 
-// Tells of a program, by its name, what failed and why: at one go, since a call between would leave another reason. A longer name is cut.
-pub fn tell(name: &[u8], what: &[u8]) {
-    let mut line = [0u8; 64];
-    let next = put(&mut line, 0, name);
-    let next = put(&mut line, next, what);
-    os::fail(&line[..next]);
-    libc::write(STATUS_FILENO, b"1");
+use std::io;
+use std::process::ExitCode;
+
+// Tells of a program, by its name, what failed and why, and says the status to end with. Where standard error takes no line, the status is the same.
+pub fn tell(rt: &impl Eprint, name: &[u8], what: &[u8], why: io::Error) -> ExitCode
+    ensures { exit_status result ≡ 1 }
+{
+    let name = name.escape_ascii();
+    let what = what.escape_ascii();
+    let _ = eprintln!(rt; "{name}{what}: {why}");
+    ExitCode::FAILURE
 }
