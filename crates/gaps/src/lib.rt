@@ -1,5 +1,6 @@
 // How far apart two stamps are, from their texts.
 #![tactic(auto)]
+
 ghost use Rattle.std.proofs.Math.Option.{some};
 ghost use Rattle.datetimes.specs.Answer.{date_time_parses};
 ghost use Rattle.gaps.specs.Gaps.{OfTexts, Tells, wholly};

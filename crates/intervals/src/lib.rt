@@ -1,5 +1,6 @@
 // The two readers of an interval, on the rule in crates/interval: one of bytes that begin with it, one of bytes that are it as a whole.
 #![tactic(auto)]
+
 ghost use Rattle.std.specs.Prelude.{◌≡◌};
 ghost use Rattle.types.specs.Numbers.{number_of};
 ghost use Rattle.parser.specs.Answer.{Rest, refused};
