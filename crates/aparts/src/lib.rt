@@ -2,6 +2,7 @@
 // copies a reader into its caller only where it has one (docs/BENCHMARKS.md). The layout of the slots stands in specs/Promise.antt, and for C in
 // exports' tirozhbar.h.
 #![tactic(auto)]
+
 ghost use Rattle.std.specs.Prelude.{◌≡◌, ◌∷◌, [], ◌≤◌, pos, length};
 ghost use Rattle.slots.specs.Slots.{over};
 ghost use Rattle.aparts.specs.Promise.{ApartIn, ApartUnder};

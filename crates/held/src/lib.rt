@@ -1,5 +1,6 @@
 // The record that slots hold, as a reader fills them. Of numbers that no reader fills in, a record is made that no reader gives.
 #![tactic(auto)]
+
 ghost use Rattle.std.specs.Prelude.{◌≡◌, ◌∷◌, []};
 ghost use Rattle.types.specs.declared.Choices.{Choices};
 ghost use Rattle.slots.specs.Slots.{offset_slots, time_offset_slots, time_slots, date_slots, as_slot, duration_slots};

@@ -1,5 +1,6 @@
 // The writer of intervals: how often one repeats, and its sides with `/` between them.
 #![tactic(auto)]
+
 ghost use Rattle.std.specs.Prelude.{◌+◌, ◌≤◌, true, ◌≡◌, length};
 ghost use Rattle.interval.specs.Once.{interval};
 ghost use Rattle.text.specs.Text.{Puts};

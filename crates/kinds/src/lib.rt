@@ -1,6 +1,7 @@
 // One face over the six kinds: a kind as a value, and the two readers and the rest of the kind that is named. Each does what the
 // kind's own function does; who knows the kind calls that, and is served faster.
 #![tactic(auto)]
+
 ghost use Rattle.std.specs.Prelude.{◌≡◌};
 ghost use Rattle.parser.specs.Answer.{Rest};
 ghost use Rattle.dates.specs.Answer.{date_told};

@@ -1,6 +1,7 @@
 // The readers into slots: each takes the bytes and an array of slots, fills the slots and returns the paper's number. The layout of the
 // slots stands in slots' specs/Slots.antt.
 #![tactic(auto)]
+
 ghost use Rattle.offset.specs.Rules.{offset};
 ghost use Rattle.time.specs.Rules.{time};
 ghost use Rattle.date.specs.Rules.{date};
