@@ -4,6 +4,7 @@
 // cut: that is `proofs/Laws.antt`. The state never holds the text, which has no limit: it keeps at most 200 bytes that are read the same, and
 // of each the place where it stood (specs/Keeping.antt).
 #![tactic(auto)]
+
 ghost use Rattle.std.specs.Prelude.{◌+◌, ◌<◌, min, max, ◌≡◌, length, drop};
 ghost use Rattle.arriving.specs.Keeping.{joined, zero_run, started, stepped, Answers, Ends};
 

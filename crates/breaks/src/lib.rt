@@ -4,6 +4,7 @@
 // All of it under document 01's rules, edition 2019, whatever choices a kind is named with. A text can be completed exactly where it is open or
 // accepted, so that one reading tells it, and what begins such a text can be completed too, so that the place is found by halving.
 #![tactic(auto)]
+
 ghost use Rattle.std.specs.Prelude.{◌≡◌};
 ghost use Rattle.breaks.specs.Breaks.{under2019, BreaksAt, Completable, Tells, numbered, handed, Hands};
 ghost use Rattle.breaks.specs.Standing.{wholly, Stands};

@@ -1,5 +1,6 @@
 // What a line counts as, and the table of five kinds by four answers that a count is raised in.
 #![tactic(auto)]
+
 ghost use Rattle.std.specs.Prelude.{◌≡◌};
 ghost use Rattle.types.specs.Sums.{or_over};
 ghost use Rattle.parser.specs.Answer.{recorded};

@@ -3,6 +3,7 @@
 // a number names the caller's choices; one that names none is refused before anything else is looked at. The layout of the slots stands in
 // slots' specs/Slots.antt, the numbers in its specs/Choosing.antt, and both, for C, in tirozhbar.h.
 #![tactic(auto)]
+
 ghost use Rattle.offset.specs.Rules.{offset};
 ghost use Rattle.time.specs.Rules.{time};
 ghost use Rattle.date.specs.Rules.{date};

@@ -4,6 +4,7 @@
 //
 // put into a buffer of the caller's. Programs stand on `answer_line`.
 #![tactic(auto)]
+
 ghost use Rattle.std.specs.Prelude.{◌≤◌, ◌≡◌};
 ghost use Rattle.kinds.specs.Kinds.{told};
 ghost use Rattle.text.specs.Text.{Puts};

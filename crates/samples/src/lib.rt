@@ -5,6 +5,7 @@
 //
 // in the words of `answers`, without the verdict and a time's digits. The response is `same`, or `differs` and our answer.
 #![tactic(auto)]
+
 ghost use Rattle.std.specs.Prelude.{◌≡◌, length, ◌<◌};
 ghost use Rattle.text.specs.Text.{Puts};
 ghost use Rattle.reply.specs.Line.{Gives};

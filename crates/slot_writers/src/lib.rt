@@ -1,6 +1,7 @@
 // The writers of what slots hold. Each takes the record from slot 2 on, where a reader leaves it, puts its spelling to the front of a
 // buffer, and leaves the count in slot 0. The layout of the slots stands in slots' specs/Slots.antt.
 #![tactic(auto)]
+
 ghost use Rattle.std.specs.Prelude.{◌<◌, ◌≤◌, ◌^◌, length};
 ghost use Rattle.offset.specs.Rules.{offset};
 ghost use Rattle.time.specs.Rules.{time};

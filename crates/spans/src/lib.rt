@@ -2,6 +2,7 @@
 // is made of may begin at any byte, and the compiler makes shorter code of a reader that is asked at the first byte alone (docs/DECISIONS.md).
 // The layout of the slots stands in slots' specs/Slots.antt, and for C in exports' tirozhbar.h.
 #![tactic(auto)]
+
 ghost use Rattle.interval.specs.Once.{interval};
 ghost use Rattle.slots.specs.Slots.{interval_slots};
 ghost use Rattle.slot_readers.specs.Promises.{BeginsIn, EndsIn, BeginsUnder, EndsUnder};

@@ -1,5 +1,6 @@
 // The one spelling of what a line holds: the record that the whole reader gives, as its writer writes it, or why there is none.
 #![tactic(auto)]
+
 ghost use Rattle.std.specs.Prelude.{length};
 ghost use Rattle.parser.specs.Answer.{ended};
 ghost use Rattle.kinds.specs.Kinds.{rule_of};

@@ -1,5 +1,6 @@
 // One face over the writers, for records of any kind.
 #![tactic(auto)]
+
 ghost use Rattle.kinds.specs.Kinds.{rule_of};
 ghost use Rattle.writing.specs.Writing.{Writes};
 ghost use Rattle.writers.specs.Spellings.{kind_of, spelling};

@@ -1,0 +1,10 @@
+-- What the line asks is what is answered.
+use mathlib.Core.Path.{sym, ◌∙◌}
+use Rattle.reply.proofs.Asked.{names_long}
+use Rattle.reply.proofs.answer.Goals as goal
+
+pub slice_bounds-answer_text-count : goal.slice_bounds-answer_text-count
+slice_bounds-answer_text-count c = rw c.head_of-from.ensures (names_long _ _ (sym c.question-asked.ensures ∙ c.in-Names.is))
+
+pub slice_bounds-answer_text-start : goal.slice_bounds-answer_text-start
+slice_bounds-answer_text-start c = rw c.head_of-from.ensures (names_long _ _ (sym c.question-asked.ensures ∙ c.in-Names.is))

@@ -1,0 +1,16 @@
+-- What the line asks is what is spelled.
+use Prim.Native.Nat.{◌-◌}
+use mathlib.Core.Path.{sym, ◌∙◌}
+use native.Mathlib.Omega.{arith}
+use borrow.Author.Rules.{rules}
+use lib.ListN.{length, drop, length-drop}
+use lib.Seq.{take_all}
+use Rattle.reply.specs.Line.{head_of}
+use Rattle.reply.proofs.Asked.{names_long}
+use Rattle.spellings.proofs.spell.Goals as goal
+
+pub slice_bounds-spell_text-count : goal.slice_bounds-spell_text-count
+slice_bounds-spell_text-count c = rw c.head_of-from.ensures (names_long _ _ (sym c.question-asked.ensures ∙ c.in-Names.is))
+
+pub slice_bounds-spell_text-start : goal.slice_bounds-spell_text-start
+slice_bounds-spell_text-start c = rw c.head_of-from.ensures (names_long _ _ (sym c.question-asked.ensures ∙ c.in-Names.is))
