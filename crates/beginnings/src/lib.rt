@@ -1,6 +1,7 @@
 // What arrives in pieces beside what is read afresh, for counting. A kind is named by its letter, so that C can call these; a letter that
 // names none gives 0.
 #![tactic(auto)]
+
 ghost use Rattle.std.specs.Prelude.{min, max, ◌≡◌};
 ghost use Rattle.beginnings.specs.Beginnings.{count_of, count_accepted, greatest_count, lettered};
 

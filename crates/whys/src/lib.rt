@@ -1,6 +1,7 @@
 // What broke a text, for C. A library of its own: what stands on all readers at once would be a second caller of each, and the compiler copies a
 // reader into its caller only where it has one (docs/BENCHMARKS.md). The header is exports' tirozhbar.h.
 #![tactic(auto)]
+
 ghost use Rattle.whys.specs.Promise.{WhyTells};
 
 use kinds::answer::Letter;

@@ -1,18 +1,13 @@
 -- What the line names is what is asked of its text.
-use Prim.Native.Nat.{◌-◌, ◌≤◌}
+use Prim.Native.Nat.{◌-◌}
 use mathlib.Core.Path.{sym, ◌∙◌}
 use native.Mathlib.Omega.{arith}
-use borrow.Author.Rules.{rules}
 use lib.ListN.{length, drop, length-drop}
 use lib.Seq.{take_all}
 use Rattle.reply.proofs.Asked.{plain_long}
 use Rattle.counts.specs.Counts.{line_of}
 use Rattle.counts.proofs.Laws.{ended_wholly}
 use Rattle.counts.proofs.see.Goals as goal
-use Rattle.counts.proofs.see.Goals.{In-Names}
-
-long : (c : In-Names) → 2 ≤ length c.args.line.now
-long c = plain_long _ _ (sym c.plain_question-asked.ensures ∙ c.in-Names.is)
 
 pub returns-in-Names : goal.returns-in-Names
 unfolding line_of
@@ -23,14 +18,14 @@ returns-in-Names c =
     rw (← c.plain_question-asked.ensures, c.in-Names.is, c.of_answer.ensures, c.row_of.ensures, read, length-drop 2 line, ended_wholly)
 
 pub slice_bounds-read-count : goal.slice_bounds-read-count
-slice_bounds-read-count c = long c
+slice_bounds-read-count c = plain_long _ _ (sym c.plain_question-asked.ensures ∙ c.in-Names.is)
 
 pub slice_bounds-read-start : goal.slice_bounds-read-start
-slice_bounds-read-start c = long c
+slice_bounds-read-start c = plain_long _ _ (sym c.plain_question-asked.ensures ∙ c.in-Names.is)
 
 pub overflow_sub-line : goal.overflow_sub-line
 unfolding line_of
-overflow_sub-line c = long c
+overflow_sub-line c = plain_long _ _ (sym c.plain_question-asked.ensures ∙ c.in-Names.is)
 
 pub returns-in-Unknown : goal.returns-in-Unknown
 unfolding line_of

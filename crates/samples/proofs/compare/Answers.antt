@@ -1,8 +1,6 @@
 -- By the tab, or that there is none.
-use mathlib.Core.Path.{refl, sym, ◌∙◌}
+use mathlib.Core.Path.{sym, ◌∙◌}
 use Rattle.samples.proofs.Lines.{tab_within}
-use Rattle.samples.specs.Samples.{unknown}
-use borrow.Author.Rules.{rules}
 use Rattle.samples.proofs.compare.Goals as goal
 
 pub put_sampled-requires : goal.put_sampled-requires

@@ -2,7 +2,6 @@
 use mathlib.Core.List.{[], ◌∷◌, ◌++◌}
 use mathlib.Core.Path.{refl}
 use Rattle.text.proofs.Laws.{then_puts}
-use borrow.Author.Rules.{rules}
 use Rattle.samples.proofs.compare_line.Goals as goal
 
 pub returns : goal.returns

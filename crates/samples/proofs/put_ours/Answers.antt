@@ -3,7 +3,6 @@ use mathlib.Core.Path.{refl, sym}
 use lib.Seq.{length-take-le}
 use Rattle.text.proofs.Laws.{puts_within}
 use Rattle.samples.proofs.Laws.{told_in}
-use borrow.Author.Rules.{rules}
 use Rattle.samples.proofs.put_ours.Goals as goal
 
 pub slice_bounds-question-end : goal.slice_bounds-question-end
