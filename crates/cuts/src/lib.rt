@@ -1,6 +1,7 @@
 // What arrives in pieces, as a line shows it: the text of the line is cut by `|`, and after each piece stands what `arriving` answers. Programs
 // stand on `pieces_line`.
 #![tactic(auto)]
+
 ghost use Rattle.std.specs.Prelude.{◌≤◌, [], ◌≡◌, length};
 ghost use Rattle.reply.specs.Line.{Gives};
 ghost use Rattle.cuts.specs.Cuts.{SaysOf, pieces, Says, SaysLine};

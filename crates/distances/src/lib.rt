@@ -1,6 +1,7 @@
 // What `apart` says of a line: how far the second of its two texts lies behind the first, `SECONDS NANOS` or `refused N`. Programs stand on
 // `apart_line`.
 #![tactic(auto)]
+
 ghost use Rattle.std.specs.Prelude.{◌++◌};
 ghost use Rattle.moments.specs.Moments.{fault_number};
 ghost use Rattle.text.specs.Text.{Puts, decimal};

@@ -1,6 +1,7 @@
 // What `why` says of a line: `ok`, `early N` or `bad N`, and where it is to be shown, the text again with a `^` under the first bad byte or under
 // the end. Programs stand on `why_line`.
 #![tactic(auto)]
+
 ghost use Rattle.std.specs.Prelude.{◌≡◌, replicate};
 ghost use Rattle.text.specs.Text.{Puts};
 ghost use Rattle.reply.specs.Line.{Gives};

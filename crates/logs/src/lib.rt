@@ -3,6 +3,7 @@
 // Whoever reads a log block by block begins with `start` and `no_counts`, gives each block to `step`, and at the end of the input calls `finish`,
 // which puts the table of all that was handed over. The buffer, for a line that no byte 10 has ended yet, has at least 205 bytes.
 #![tactic(auto)]
+
 ghost use Rattle.std.specs.Prelude.{◌≤◌, [], ◌≡◌, length};
 ghost use Rattle.counts.specs.Counts.{table_of};
 ghost use Rattle.logs.specs.Log.{started, with_line, One, AllLines, passes, Steps, Finishes};

@@ -1,5 +1,4 @@
 -- The kind is the one that the letter names.
-use borrow.Author.Rules.{rules}
 use Rattle.beginnings.specs.Beginnings.{greatest_count}
 use Rattle.beginnings.proofs.Counts.{lettered_names, lettered_unknown}
 use Rattle.beginnings.proofs.tirozhbar_afresh.Goals as goal

@@ -1,11 +1,5 @@
 -- What the line asks is what is spelled.
-use Prim.Native.Nat.{◌-◌}
 use mathlib.Core.Path.{sym, ◌∙◌}
-use native.Mathlib.Omega.{arith}
-use borrow.Author.Rules.{rules}
-use lib.ListN.{length, drop, length-drop}
-use lib.Seq.{take_all}
-use Rattle.reply.specs.Line.{head_of}
 use Rattle.reply.proofs.Asked.{names_long}
 use Rattle.spellings.proofs.spell.Goals as goal
 

@@ -1,5 +1,4 @@
 -- What is said, and the byte that ends it.
-use borrow.Author.Rules.{rules}
 use Rattle.text.proofs.Laws.{then_puts}
 use Rattle.spellings.proofs.spell_line.Goals as goal
 

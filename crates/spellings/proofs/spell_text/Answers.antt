@@ -1,6 +1,5 @@
 -- What the whole reader tells fixes what is said.
 use mathlib.Core.Path.{sym, ap, ◌∙◌}
-use borrow.Author.Rules.{rules}
 use Rattle.text.proofs.Laws.{then_puts}
 use Rattle.kinds.specs.Kinds.{told}
 use Rattle.spellings.proofs.Laws.{whole_readable}

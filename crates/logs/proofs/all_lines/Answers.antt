@@ -1,0 +1,10 @@
+-- Each turn takes a line, or the rest of the block.
+use Prim.Native.Nat.{◌-◌}
+use borrow.Author.Rules.{rules}
+use native.Mathlib.Omega.{arith}
+use lib.ListN.{length}
+use Rattle.logs.proofs.Along.{Along, begins, goes_along, ends}
+use Rattle.logs.proofs.all_lines.Goals as goal
+
+pub loop-used-preserved : goal.loop-used-preserved
+loop-used-preserved c = goes_along _ _ _ _ c.loop-used.invariant c.loop-used-test.true c.one_line-one.ensures

@@ -1,0 +1,16 @@
+-- Nothing is held where the last line is empty, and else what is held is counted too.
+use mathlib.Core.Path.{sym}
+use borrow.Author.Rules.{rules}
+use native.Mathlib.Omega.{arith}
+use lib.Seq.{length-take-le}
+use Rattle.logs.proofs.Steps.{ends_none, ends_last}
+use Rattle.logs.proofs.finish.Goals as goal
+
+pub returns-then-n-eq0 : goal.returns-then-n-eq0
+returns-then-n-eq0 c =
+    ends_none c.args.week c.args.table _ c.lesser-n.ensures c.if-n-eq0.true c.put_week.ensures
+
+pub returns : goal.returns
+returns c =
+    let puts = rw (c.count.ensures, c.with_line-last.ensures, c.see-line.ensures) at c.put_week-2.ensures in
+    ends_last c.before.before.before.before.before.before.before.before.before.before.before.before.before.args.week c.before.before.before.before.before.before.before.before.before.before.before.before.before.args.table _ c.before.before.before.before.before.before.before.before.before.before.lesser.ensures c.before.before.before.before.before.before.before.before.before.if1.false puts
