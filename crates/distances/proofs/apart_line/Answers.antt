@@ -1,6 +1,5 @@
 -- What is said, and the byte that ends it.
 use mathlib.Core.Path.{refl}
-use borrow.Author.Rules.{rules}
 use Rattle.text.proofs.Laws.{then_puts}
 use Rattle.distances.proofs.apart_line.Goals as goal
 

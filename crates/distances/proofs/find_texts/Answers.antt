@@ -1,7 +1,6 @@
 -- By the head, and the letter and the space in it.
 use mathlib.Core.Path.{ap}
 use native.Mathlib.Omega.{arith}
-use borrow.Author.Rules.{rules}
 use Rattle.reply.proofs.Asked.{head_size}
 use Rattle.reply.specs.declared.Head.{Head}
 use Rattle.distances.proofs.Heads.{Headed, heads}

@@ -1,51 +1,38 @@
 -- By the space that parts the two texts, and by each of them.
-use Prim.Native.Nat.{◌≤◌, ◌<◌}
-use mathlib.Core.Path.{◌≡◌, sym, ◌∙◌}
+use mathlib.Core.Path.{sym, ◌∙◌}
 use native.Mathlib.Omega.{arith}
-use borrow.Author.Rules.{rules}
-use borrow.Author.Tests.{not-true, not-false}
-use lib.ListN.{length}
 use Rattle.parser.proofs.Lent.{all_lent}
-use Rattle.lines.specs.declared.Ended.TheVariants.{At}
-use Rattle.lines.specs.Lines.{place_of}
 use Rattle.lines.proofs.Laws.{place_within}
 use Rattle.distances.proofs.Search.{no_space, no_first, no_second, finds}
 use Rattle.distances.proofs.texts_from.Goals as goal
-use Rattle.distances.proofs.texts_from.Goals.{In-At}
-
-space : (c : In-At) → place_of 32 c.args.line.now c.args.from ≡ At c.in-At.end
-space c = sym c.place_of.ensures ∙ c.in-At.is
-
-found : (c : In-At) → (c.args.from ≤ c.in-At.end) × (c.in-At.end < length c.args.line.now)
-found c = place_within _ _ _ _ (space c)
 
 pub returns-then-not-is_text : goal.returns-then-not-is_text
-returns-then-not-is_text c = no_first c.requires (space c) (rw (not-true c.is_text.result c.if-not-is_text.true) at c.is_text.ensures)
+returns-then-not-is_text c = no_first c.requires (sym c.place_of.ensures ∙ c.in-At.is) (rw c.if-not-is_text.true at c.is_text.ensures)
 
 pub returns-then-not-is_text-2 : goal.returns-then-not-is_text-2
 returns-then-not-is_text-2 c =
-    no_second c.requires (space c) (rw (not-true c.is_text-in-At.result c.if-not-is_text-2.true, all_lent) at c.is_text-in-At.ensures)
+    no_second c.requires (sym c.place_of.ensures ∙ c.in-At.is) (rw (c.if-not-is_text-2.true, all_lent) at c.is_text-in-At.ensures)
 
 pub returns-else-not-is_text-2 : goal.returns-else-not-is_text-2
 returns-else-not-is_text-2 c =
-    let first = rw (not-false c.is_text.result c.if-not-is_text.false) at c.is_text.ensures in
-    let second = rw (not-false c.is_text-in-At.result c.if-not-is_text-2.false, all_lent) at c.is_text-in-At.ensures in
-    finds c.requires (space c) first second
+    let first = rw (c.if-not-is_text.false) at c.is_text.ensures in
+    let second = rw (c.if-not-is_text-2.false, all_lent) at c.is_text-in-At.ensures in
+    finds c.requires (sym c.place_of.ensures ∙ c.in-At.is) first second
 
 pub returns-in-Open : goal.returns-in-Open
 returns-in-Open c = no_space c.requires (sym c.place_of.ensures ∙ c.in-Open.is)
 
 pub slice_bounds-is_text-count : goal.slice_bounds-is_text-count
-slice_bounds-is_text-count c = (found c).0
+slice_bounds-is_text-count c = (place_within _ _ _ _ (sym c.place_of.ensures ∙ c.in-At.is)).0
 
 pub slice_bounds-is_text-start : goal.slice_bounds-is_text-start
-slice_bounds-is_text-start c = (found c).0
+slice_bounds-is_text-start c = (place_within _ _ _ _ (sym c.place_of.ensures ∙ c.in-At.is)).0
 
 pub slice_bounds-is_text-end : goal.slice_bounds-is_text-end
-slice_bounds-is_text-end c = omega (arith, found c)
+slice_bounds-is_text-end c = omega (arith, place_within _ _ _ _ (sym c.place_of.ensures ∙ c.in-At.is))
 
 pub slice_bounds-is_text-count-in-At : goal.slice_bounds-is_text-count-in-At
-slice_bounds-is_text-count-in-At c = omega (arith, found c)
+slice_bounds-is_text-count-in-At c = omega (arith, place_within _ _ _ _ (sym c.place_of.ensures ∙ c.in-At.is))
 
 pub slice_bounds-is_text-start-in-At : goal.slice_bounds-is_text-start-in-At
-slice_bounds-is_text-start-in-At c = omega (arith, found c)
+slice_bounds-is_text-start-in-At c = omega (arith, place_within _ _ _ _ (sym c.place_of.ensures ∙ c.in-At.is))

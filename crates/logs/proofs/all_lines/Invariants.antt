@@ -1,9 +1,7 @@
 -- Each turn takes a line, or the rest of the block.
 use Prim.Native.Nat.{◌-◌}
-use borrow.Author.Rules.{rules}
-use native.Mathlib.Omega.{arith}
 use lib.ListN.{length}
-use Rattle.logs.proofs.Along.{Along, begins, goes_along, ends}
+use Rattle.logs.proofs.Along.{Along}
 use Rattle.logs.proofs.all_lines.Given as goal
 
 abbrev pub invariant-loop-used : goal.invariant-loop-used

@@ -1,8 +1,4 @@
 -- Nothing is held where the last line is empty, and else what is held is counted too.
-use mathlib.Core.Path.{sym}
-use borrow.Author.Rules.{rules}
-use native.Mathlib.Omega.{arith}
-use lib.Seq.{length-take-le}
 use Rattle.logs.proofs.Steps.{ends_none, ends_last}
 use Rattle.logs.proofs.finish.Goals as goal
 
@@ -13,4 +9,4 @@ returns-then-n-eq0 c =
 pub returns : goal.returns
 returns c =
     let puts = rw (c.count.ensures, c.with_line-last.ensures, c.see-line.ensures) at c.put_week-2.ensures in
-    ends_last c.before.before.before.before.before.before.before.before.before.before.before.before.before.args.week c.before.before.before.before.before.before.before.before.before.before.before.before.before.args.table _ c.before.before.before.before.before.before.before.before.before.before.lesser.ensures c.before.before.before.before.before.before.before.before.before.if1.false puts
+    ends_last c.args.week c.args.table _ c.lesser-n.ensures c.if-n-eq0.false puts

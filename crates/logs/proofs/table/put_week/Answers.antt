@@ -1,5 +1,4 @@
 -- The table, the bad lines and the sum, one behind the other.
-use borrow.Author.Rules.{rules}
 use Rattle.text.proofs.Laws.{then_puts}
 use Rattle.logs.specs.Table.{week_text}
 use Rattle.logs.proofs.table.put_week.Goals as goal
