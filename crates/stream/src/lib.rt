@@ -4,6 +4,7 @@
 // the responses of the lines that the block ends, and at the end of the input calls `finish`. What was put then, one behind the other, is the
 // responses to the lines of all bytes so far, in order, each once.
 #![tactic(auto)]
+
 ghost use Rattle.std.specs.Prelude.{◌+◌, ◌≤◌, length};
 ghost use Rattle.reply.specs.Line.{Gives};
 ghost use Rattle.stream.specs.Stream.{Responds, One, Steps, Finishes};
