@@ -3,6 +3,7 @@
 //
 //     B COUNT VERDICT W WCOUNT RECORD
 #![tactic(auto)]
+
 use stream::Program;
 
 fn main() {

@@ -6,6 +6,7 @@
 // in the words of `answers`, without the verdict and a time's digits, which the original has not. Among the sample are lines that are wrong on
 // purpose, so that a comparison that sees nothing shows.
 #![tactic(auto)]
+
 use stream::Program;
 
 fn main() {

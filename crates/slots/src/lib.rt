@@ -1,6 +1,7 @@
 // What an answer is in an array of slots of 64 bits: each function fills the slots of one answer and returns the paper's number. Where
 // the slots are too few, or the count is more than a slot holds, it writes nothing. The layout stands in specs/Slots.antt.
 #![tactic(auto)]
+
 ghost use Rattle.std.specs.Prelude.{◌≡◌, ◌∷◌, [], ◌+◌, ◌≤◌, ◌<◌, ◌^◌, pos, length};
 ghost use Rattle.std.proofs.lemmas.List.Edits.{sets};
 ghost use Rattle.types.specs.Numbers.{number_of};

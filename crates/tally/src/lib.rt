@@ -1,5 +1,6 @@
 // The running sum of a log's durations.
 #![tactic(auto)]
+
 ghost use Rattle.std.specs.Prelude.{◌≡◌};
 ghost use Rattle.tally.specs.Tally.{with_line};
 
