@@ -4,8 +4,9 @@
 //     B COUNT VERDICT W WCOUNT RECORD
 #![tactic(auto)]
 
+use std::process::ExitCode;
 use stream::Program;
 
-fn main() {
-    filter::run(Program::Answers, b"answers");
+fn main(rt: HostRuntime) -> ExitCode {
+    filter::run(&rt, Program::Answers, b"answers")
 }

@@ -2,8 +2,9 @@
 // `refused N`, a line of standard output each.
 #![tactic(auto)]
 
+use std::process::ExitCode;
 use stream::Program;
 
-fn main() {
-    filter::run(Program::Apart, b"apart");
+fn main(rt: HostRuntime) -> ExitCode {
+    filter::run(&rt, Program::Apart, b"apart")
 }

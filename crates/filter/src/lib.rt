@@ -2,29 +2,39 @@
 //
 // What has arrived is answered before the program waits for more.
 #![tactic(auto)]
+
 ghost use Rattle.std.specs.Prelude.{◌≤◌, length};
 ghost use Rattle.filter.specs.Served.{Serves};
 
-use libc::{STDIN_FILENO, STDOUT_FILENO};
+use std::io::{Input, Read};
+use std::process::ExitCode;
 use stream::{LIMIT, Program};
 use telling::tell;
 
-// What a block leaves: how many bytes are held; or a write that failed.
+// What a block leaves: how many bytes are held; or a write that failed, which is told.
 #[derive(Clone, Copy)]
 enum Served {
     All { held: usize },
     Failed,
 }
 
-// Whether the input may go on, and what is held of it then.
+// Whether the input may go on, and what is held of it then; or the status to end with.
 #[derive(Clone, Copy)]
 enum Turn {
     On { held: usize },
-    Done,
+    Done { status: ExitCode },
 }
 
 // Hands the responses to the lines that a block ends to the write, step by step.
-fn serve(program: Program, kept: &mut [u8], held: usize, block: &[u8], out: &mut [u8]) -> Served
+fn serve(
+    rt: &(impl Print + Eprint),
+    program: Program,
+    name: &[u8],
+    kept: &mut [u8],
+    held: usize,
+    block: &[u8],
+    out: &mut [u8],
+) -> Served
     requires { (1024 ≤ length kept.old) × (16384 ≤ length out.old) }
     ensures { Serves program held block.now kept.old kept.new result }
 {
@@ -33,7 +43,8 @@ fn serve(program: Program, kept: &mut [u8], held: usize, block: &[u8], out: &mut
     while used < block.len() {
         let step = stream::step(program, kept, held, block, used, out);
         let n = step.at;
-        if !io::write_all(STDOUT_FILENO, &out[..n]) {
+        if let Err(why) = rt.write_all(&out[..n]) {
+            tell(rt, name, b": standard output", why);
             return Served::Failed;
         }
         held = step.held;
@@ -42,65 +53,78 @@ fn serve(program: Program, kept: &mut [u8], held: usize, block: &[u8], out: &mut
     Served::All { held }
 }
 
-// The last line, where the input has no byte 10 behind it.
-fn serve_last(program: Program, kept: &[u8], held: usize, out: &mut [u8]) -> bool {
-    let n = stream::finish(program, kept, held, out);
-    io::write_all(STDOUT_FILENO, &out[..n])
-}
-
-// Reads once, and answers what came; at the end of the input, the last line. Done also where something failed, which is told.
-fn one_turn(
+// The last line, where the input has no byte 10 behind it, and the status to end with.
+fn serve_last(
+    rt: &(impl Print + Eprint),
     program: Program,
     name: &[u8],
-    buf: &mut [u8],
+    kept: &[u8],
+    held: usize,
+    out: &mut [u8],
+) -> ExitCode {
+    let n = stream::finish(program, kept, held, out);
+    match rt.write_all(&out[..n]) {
+        Ok(()) => ExitCode::SUCCESS,
+        Err(why) => tell(rt, name, b": standard output", why),
+    }
+}
+
+// Answers what a read gave; at the end of the input, where it gave nothing, the last line. Done also where something failed, which is told.
+fn one_turn(
+    rt: &(impl Print + Eprint),
+    program: Program,
+    name: &[u8],
+    block: &[u8],
     kept: &mut [u8],
     held: usize,
     out: &mut [u8],
 ) -> Turn
     requires { (1024 ≤ length kept.old) × (16384 ≤ length out.old) }
 {
-    let got = libc::read(STDIN_FILENO, buf);
-    if got < 0 {
-        tell(name, b": standard input");
-        return Turn::Done;
+    if block.is_empty() {
+        let status = serve_last(rt, program, name, kept, held, out);
+        return Turn::Done { status };
     }
-    let n = io::count(got, buf);
-    if n == 0 {
-        if !serve_last(program, kept, held, out) {
-            tell(name, b": standard output");
-        }
-        return Turn::Done;
-    }
-    let served = serve(program, kept, held, &buf[..n], out);
+    let served = serve(rt, program, name, kept, held, block, out);
     match served {
         Served::All { held: count } => Turn::On { held: count },
-        Served::Failed => {
-            tell(name, b": standard output");
-            Turn::Done
-        }
+        Served::Failed => Turn::Done {
+            status: ExitCode::FAILURE,
+        },
     }
 }
 
-// A proved loop has to end, and nothing says that an input does. So the loop counts its turns down, from a number that no run uses up.
-fn all_turns(program: Program, name: &[u8], buf: &mut [u8], kept: &mut [u8], out: &mut [u8])
+// A proved loop has to end, and nothing says that an input does. So the loop counts its turns, to a number that no run reaches.
+fn all_turns(
+    rt: &(impl Input + Print + Eprint),
+    program: Program,
+    name: &[u8],
+    buf: &mut [u8],
+    kept: &mut [u8],
+    out: &mut [u8],
+) -> ExitCode
     requires { (1024 ≤ length kept.old) × (16384 ≤ length out.old) }
 {
+    let mut input = rt.reader();
     let mut held = 0;
-    let mut left = u64::MAX;
-    while left > 0 {
-        let next = one_turn(program, name, buf, kept, held, out);
+    for _ in 0..u64::MAX {
+        let n = match input.read(buf) {
+            Ok(n) => n,
+            Err(why) => return tell(rt, name, b": standard input", why),
+        };
+        let next = one_turn(rt, program, name, &buf[..n], kept, held, out);
         match next {
             Turn::On { held: count } => held = count,
-            Turn::Done => return,
+            Turn::Done { status } => return status,
         }
-        left -= 1;
     }
+    ExitCode::FAILURE
 }
 
-// The name is what the program calls itself where it tells that something failed.
-pub fn run(program: Program, name: &[u8]) {
-    let mut buf = io::large_buffer();
+// The name is what the program calls itself where it tells that something failed. The status is that to end with.
+pub fn run(rt: &(impl Input + Print + Eprint), program: Program, name: &[u8]) -> ExitCode {
+    let mut buf = [0u8; 65536];
     let mut kept = [0u8; LIMIT];
-    let mut out = io::large_buffer();
-    all_turns(program, name, &mut buf, &mut kept, &mut out);
+    let mut out = [0u8; 65536];
+    all_turns(rt, program, name, &mut buf, &mut kept, &mut out)
 }

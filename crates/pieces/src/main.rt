@@ -2,8 +2,9 @@
 // output has what the beginning reader says after each piece, and what the whole reader says at the end.
 #![tactic(auto)]
 
+use std::process::ExitCode;
 use stream::Program;
 
-fn main() {
-    filter::run(Program::Pieces, b"pieces");
+fn main(rt: HostRuntime) -> ExitCode {
+    filter::run(&rt, Program::Pieces, b"pieces")
 }

@@ -7,8 +7,9 @@
 // purpose, so that a comparison that sees nothing shows.
 #![tactic(auto)]
 
+use std::process::ExitCode;
 use stream::Program;
 
-fn main() {
-    filter::run(Program::Replay, b"replay");
+fn main(rt: HostRuntime) -> ExitCode {
+    filter::run(&rt, Program::Replay, b"replay")
 }

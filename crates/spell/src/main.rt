@@ -2,8 +2,9 @@
 // spelling of the record that the whole reader gives, or `refused N`.
 #![tactic(auto)]
 
+use std::process::ExitCode;
 use stream::Program;
 
-fn main() {
-    filter::run(Program::Spell, b"spell");
+fn main(rt: HostRuntime) -> ExitCode {
+    filter::run(&rt, Program::Spell, b"spell")
 }

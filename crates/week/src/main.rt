@@ -1,10 +1,12 @@
 // A week of logs in numbers: counts the lines of standard input by kind and answer, adds up the seconds of its durations, and prints seven lines.
 #![tactic(auto)]
+
 ghost use Rattle.std.specs.Prelude.{◌≤◌, length};
 ghost use Rattle.week.specs.Turns.{Turned, Counted};
 
-use libc::{STDERR_FILENO, STDIN_FILENO, STDOUT_FILENO};
 use logs::Week;
+use std::io::{Input, Read};
+use std::process::ExitCode;
 use telling::tell;
 
 // What a read leaves: the log so far, and whether bytes came behind the input; the end; or a read that failed, which is told.
@@ -24,6 +26,8 @@ enum Log {
 
 // Reads once, and counts what came. `past`: bytes came behind the input before.
 fn one_turn(
+    rt: &impl Eprint,
+    input: &mut impl Read,
     week: Week,
     past: bool,
     table: &mut [[u64; 4]; 5],
@@ -32,12 +36,13 @@ fn one_turn(
 ) -> Turn
     ensures { Turned week past table.old kept.old table.new kept.new result }
 {
-    let got = libc::read(STDIN_FILENO, buf);
-    if got < 0 {
-        tell(b"week", b": standard input");
-        return Turn::Failed;
-    }
-    let n = io::count(got, buf);
+    let n = match input.read(buf) {
+        Ok(n) => n,
+        Err(why) => {
+            tell(rt, b"week", b": standard input", why);
+            return Turn::Failed;
+        }
+    };
     if n == 0 {
         return Turn::End;
     }
@@ -55,18 +60,23 @@ fn one_turn(
     }
 }
 
-// A proved loop has to end, and nothing says that an input does. So the loop counts its turns down, from a number that no run uses up. What comes
+// A proved loop has to end, and nothing says that an input does. So the loop counts its turns, to a number that no run reaches. What comes
 // behind the input is read too, so that whoever writes it is not cut off.
-fn all_turns(table: &mut [[u64; 4]; 5], buf: &mut [u8], kept: &mut [u8]) -> Log
+fn all_turns(
+    rt: &(impl Input + Eprint),
+    table: &mut [[u64; 4]; 5],
+    buf: &mut [u8],
+    kept: &mut [u8],
+) -> Log
     requires { 205 ≤ length kept.old }
     ensures { Counted table.new kept.new result }
 {
     *table = logs::no_counts();
+    let mut input = rt.reader();
     let mut so_far = logs::start();
     let mut passed = false;
-    let mut left = u64::MAX;
-    while left > 0 {
-        let turn = one_turn(so_far, passed, table, buf, kept);
+    for _ in 0..u64::MAX {
+        let turn = one_turn(rt, &mut input, so_far, passed, table, buf, kept);
         match turn {
             Turn::On { week, past } => {
                 so_far = week;
@@ -80,33 +90,36 @@ fn all_turns(table: &mut [[u64; 4]; 5], buf: &mut [u8], kept: &mut [u8]) -> Log
             }
             Turn::Failed => return Log::Failed,
         }
-        left -= 1;
     }
     Log::Failed
 }
 
-// Writes the table, and where bytes were left out, that they were.
-fn report(week: Week, table: [[u64; 4]; 5], kept: &[u8], past: bool) {
+// Writes the table, and where bytes were left out, that they were; and says the status to end with.
+fn report(
+    rt: &(impl Print + Eprint),
+    week: Week,
+    table: [[u64; 4]; 5],
+    kept: &[u8],
+    past: bool,
+) -> ExitCode {
     let mut out = [0u8; 1024];
     let n = logs::finish(week, table, kept, &mut out);
     if past {
-        io::write_all(
-            STDERR_FILENO,
-            b"week: only the first 4294967295 bytes were counted\n",
-        );
+        let _ = eprintln!(rt; "week: only the first 4294967295 bytes were counted");
     }
-    if !io::write_all(STDOUT_FILENO, &out[..n]) {
-        tell(b"week", b": standard output");
+    match rt.write_all(&out[..n]) {
+        Ok(()) => ExitCode::SUCCESS,
+        Err(why) => tell(rt, b"week", b": standard output", why),
     }
 }
 
-fn main() {
-    let mut buf = io::large_buffer();
+fn main(rt: HostRuntime) -> ExitCode {
+    let mut buf = [0u8; 65536];
     let mut kept = [0u8; 256];
     let mut table = [[0u64; 4]; 5];
-    let log = all_turns(&mut table, &mut buf, &mut kept);
+    let log = all_turns(&rt, &mut table, &mut buf, &mut kept);
     match log {
-        Log::Whole { week, past } => report(week, table, &kept, past),
-        Log::Failed => {}
+        Log::Whole { week, past } => report(&rt, week, table, &kept, past),
+        Log::Failed => ExitCode::FAILURE,
     }
 }

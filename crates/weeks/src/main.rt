@@ -1,14 +1,19 @@
 // Tries the counts of `week` on several logs, parted by byte 28 and of 65,536 bytes at most together: each is counted whole, byte by byte and in
 // blocks of seven bytes, and each time its seven lines are written.
 #![tactic(auto)]
+
+ghost use Rattle.std.specs.Prelude.{◌≤◌, length, IfOk};
 ghost use Rattle.weeks.specs.Blocks.{Within};
 ghost use Rattle.text.specs.Text.{Puts};
 ghost use Rattle.lines.specs.Lines.{lines};
 ghost use Rattle.logs.specs.Log.{input};
 ghost use Rattle.logs.specs.Table.{log_text};
 
-use libc::{STDIN_FILENO, STDOUT_FILENO};
 use lines::{Ended, lesser};
+use std::io;
+use std::io::{Input, Read};
+use std::process::ExitCode;
+use telling::tell;
 
 // Where a block of one byte and `more` ends, in a log of so many bytes.
 fn block_end(at: usize, more: usize, all: usize) -> usize
@@ -37,38 +42,58 @@ fn count_in_blocks(log: &[u8], more: usize, out: &mut [u8]) -> usize
     logs::finish(week, table, &kept, out)
 }
 
-fn report(log: &[u8], more: usize) {
+fn report(rt: &impl Print, log: &[u8], more: usize) -> io::Result<()> {
     let mut out = [0u8; 1024];
     let n = count_in_blocks(log, more, &mut out);
-    io::write_all(STDOUT_FILENO, &out[..n]);
+    rt.write_all(&out[..n])
 }
 
-fn try_log(log: &[u8]) {
-    report(log, log.len());
-    report(log, 0);
-    report(log, 6);
+fn try_log(rt: &impl Print, log: &[u8]) -> io::Result<()> {
+    report(rt, log, log.len())?;
+    report(rt, log, 0)?;
+    report(rt, log, 6)
 }
 
-fn try_logs(s: &[u8]) {
+fn try_logs(rt: &impl Print, s: &[u8]) -> io::Result<()> {
     let mut at = 0;
     while at < s.len() {
         let ended = lines::place_of(s, at, 28);
         match ended {
             Ended::At { end } => {
-                try_log(&s[at..end]);
+                try_log(rt, &s[at..end])?;
                 at = end + 1;
             }
             Ended::Open => {
-                try_log(&s[at..]);
-                return;
+                return try_log(rt, &s[at..]);
             }
         }
     }
-    try_log(b"");
+    try_log(rt, b"")
 }
 
-fn main() {
-    let mut buf = io::large_buffer();
-    let n = io::read_full(STDIN_FILENO, &mut buf);
-    try_logs(&buf[..n]);
+// Reads until the buffer is full or the input ends, and says how many bytes came.
+fn read_full(input: &mut impl Read, buf: &mut [u8]) -> io::Result<usize>
+    ensures { IfOk result (λ n. n ≤ length buf.new) }
+{
+    let mut done = 0;
+    while done < buf.len() {
+        let n = input.read(&mut buf[done..])?;
+        if n == 0 {
+            break;
+        }
+        done += n;
+    }
+    Ok(done)
+}
+
+fn main(rt: HostRuntime) -> ExitCode {
+    let mut buf = [0u8; 65536];
+    let n = match read_full(&mut rt.reader(), &mut buf) {
+        Ok(n) => n,
+        Err(why) => return tell(&rt, b"weeks", b": standard input", why),
+    };
+    match try_logs(&rt, &buf[..n]) {
+        Ok(()) => ExitCode::SUCCESS,
+        Err(why) => tell(&rt, b"weeks", b": standard output", why),
+    }
 }

@@ -2,8 +2,9 @@
 // first bad byte or under the end.
 #![tactic(auto)]
 
+use std::process::ExitCode;
 use stream::Program;
 
-fn main() {
-    filter::run(Program::WhyShow, b"why");
+fn main(rt: HostRuntime) -> ExitCode {
+    filter::run(&rt, Program::WhyShow, b"why")
 }

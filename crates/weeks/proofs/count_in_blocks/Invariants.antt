@@ -1,6 +1,5 @@
 -- Each turn hands over a block more.
-use Prim.Native.Nat.{◌-◌}
-use lib.ListN.{length}
+use Rattle.std.proofs.Common.{length, ◌-◌}
 use Rattle.weeks.proofs.Along.{Along}
 use Rattle.weeks.proofs.count_in_blocks.Given as goal
 

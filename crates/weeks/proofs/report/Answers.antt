@@ -1,11 +1,10 @@
 -- What is put ends within the output.
-use mathlib.Core.Path.{sym}
-use lib.Seq.{length-take-le}
+use Rattle.std.proofs.Common.{sym, length-take-le}
 use Rattle.text.proofs.Laws.{puts_within}
 use Rattle.weeks.proofs.report.Goals as goal
 
 pub slice_bounds-out-end : goal.slice_bounds-out-end
-slice_bounds-out-end c = puts_within c.count_in_blocks-n.ensures
+slice_bounds-out-end g c = puts_within c.count_in_blocks-n.ensures
 
 pub slice_bounds-write_all-end : goal.slice_bounds-write_all-end
-slice_bounds-write_all-end c = sym (length-take-le _ _ (puts_within c.count_in_blocks-n.ensures))
+slice_bounds-write_all-end g c = sym (length-take-le _ _ (puts_within c.count_in_blocks-n.ensures))
