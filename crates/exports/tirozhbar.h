@@ -1,11 +1,11 @@
 /* tirozhbar.h: ISO 8601 offsets, times, dates, date-times and durations, read from bytes and written to them; intervals, read from bytes;
  * what broke a text; and how far apart two stamps are.
  *
- * Link with libexports.a, which `rt staticlib exports` writes; for tirozhbar_interval and tirozhbar_parse_interval with libspans.a, which
- * `rt staticlib spans` writes, for tirozhbar_why with libwhys.a, which `rt staticlib whys` writes, and for tirozhbar_apart with libaparts.a,
- * which `rt staticlib aparts` writes. The code is proved to do what is said here on every input, where the bytes at TEXT and the slots lie
- * apart. A reader reads the LENGTH bytes at TEXT and writes at most the slots that its kind has; a writer reads those slots, and writes slot 0
- * and at most the LENGTH bytes at TEXT. No function keeps a state or calls anything.
+ * Link with libexports.a, which `rt lib` in crates/exports writes into out/ there; for tirozhbar_interval and tirozhbar_parse_interval with
+ * libspans.a, which it writes in crates/spans, for tirozhbar_why with libwhys.a, in crates/whys, and for tirozhbar_apart with libaparts.a,
+ * in crates/aparts. The code is proved to do what is said here on every input, where the bytes at TEXT and the slots lie apart. A reader
+ * reads the LENGTH bytes at TEXT and writes at most the slots that its kind has; a writer reads those slots, and writes slot 0 and at most
+ * the LENGTH bytes at TEXT. No function keeps a state or calls anything.
  *
  * A reader fills an array of ROOM slots and returns a number:
  *
