@@ -1,13 +1,15 @@
 #!/usr/bin/env python3
 """Brings the repository's own definitions and lemmas to snake case, in every crate.
 
-usage: python3 tools/names.py [--show]      at the top of the repository, once, right after port.py
+usage: python3 tools/names.py [--show]      at the top of the repository, once, right after the kit's port.py
 
     verdictOf, ended-whole  ->  verdict_of, ended_whole
 
-A name is ours where a file of specs/ or proofs/ declares it, at the top, in a module, as a field or behind a `where`. It turns as a whole word: in
-specs/ and proofs/, in the clauses and imports of src/, and in the edits. Functions of src/, exported names, strings and comments keep theirs.
-A lemma whose new spelling a definition or a function has gets `_lem`.
+A name is ours where a file of specs/ or proofs/ declares it, at the top, in a module, as a field or behind a `where`, and no file has it from a
+library. It turns as a whole word: in specs/ and proofs/, in the clauses and imports of src/, and in the edits. Functions of src/, exported names,
+strings and comments keep theirs. A lemma gets `_lem` where its new spelling is a word somewhere in the crates, as a definition's or a function's;
+so do those of LEMMAS, to which port.py gave the spelling of a definition. What turned is written to tools/names.tsv, but for LEMMAS; tools/port.tsv
+has the names that port.py turned. A second run would turn the names of goals.
 """
 import collections
 import glob
@@ -84,6 +86,7 @@ def turn(text, turned, fields=()):
     out, at = [], 0
     heads = set(ALIAS.findall(text))
 
+    # behind a dot only fields turn, and what stands behind the short name of a module of ours
     def one(m):
         before = m.string[max(0, m.start() - 80) : m.start()]
         head = HEAD.search(before)
@@ -101,7 +104,7 @@ def turn(text, turned, fields=()):
 
 def main():
     turned = table()
-    if "--show" in sys.argv:
+    if "--show" in sys.argv or not turned:
         print(len(turned), "names")
         return
     for path, names in LEMMAS.items():
