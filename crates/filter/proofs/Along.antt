@@ -1,5 +1,5 @@
 -- What holds after some steps over a block: the texts that were handed over make one, for the bytes that are used.
-use Prim.Native.Nat.{ℕ, ◌≤◌, ◌<◌}
+use Prim.Native.Nat.{ℕ, ◌≤◌}
 use mathlib.Core.List.{List, [], ◌++◌}
 use mathlib.Core.Path.{◌≡◌, refl, ◌∙◌}
 use native.Mathlib.Nat.{sub-zero}
@@ -26,9 +26,8 @@ module _ (p : Program) (held : ℕ) (block kept₀ out₀ : List ℕ) where
   pub begins : Along kept₀ out₀ held 0
   begins = record { text = []; goes = nothing_goes p (length kept₀) (take held kept₀); kept_size = refl; out_size = refl; within = omega arith }
 
-  pub goes_along : {kept out kept' out' : List ℕ} {now used : ℕ} {r : Reached} → Along kept out now used → used < length block
-      → Steps p now block used kept out kept' out' r → Along kept' out' r.held r.used
-  goes_along {kept} {out} {kept'} {out'} {now} {used} {r} a more s =
+  pub goes_along : {kept out kept' out' : List ℕ} {now used : ℕ} {r : Reached} → Along kept out now used → Steps p now block used kept out kept' out' r → Along kept' out' r.held r.used
+  goes_along {kept} {out} {kept'} {out'} {now} {used} {r} a s =
       let c = puts_clips s.puts (omega arith) in
       record {
         text = a.text ++ s.text;

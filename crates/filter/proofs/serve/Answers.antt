@@ -5,7 +5,7 @@ use Rattle.filter.proofs.Along.{goes_along}
 use Rattle.filter.proofs.serve.Goals as goal
 
 pub loop-used-preserved : goal.loop-used-preserved
-loop-used-preserved g c = goes_along _ _ _ _ _ c.loop-used.invariant c.loop-used-test.true c.step-step.ensures
+loop-used-preserved g c = goes_along _ _ _ _ _ c.loop-used.invariant c.step-step.ensures
 
 pub slice_bounds-write_all-end : goal.slice_bounds-write_all-end
 slice_bounds-write_all-end g c = puts_within c.step-step.ensures.puts
