@@ -1,6 +1,5 @@
 -- The tests are those of the definition.
 use native.Mathlib.Omega.{arith}
-use borrow.Author.Rules.{rules}
 use borrow.Author.Tests.{le-leb, lt-leb}
 use Rattle.time_writer.proofs.behind_given.Goals as goal
 

@@ -1,10 +1,8 @@
 -- The point, and the digits.
 use mathlib.Core.Path.{sym}
 use native.Mathlib.Omega.{arith}
-use borrow.Author.Rules.{rules}
 use borrow.Author.Tests.{eq-eqb, ne_eqb}
 use Rattle.writing.specs.Spelling.{fraction_spelling}
-use Rattle.time_writer.proofs.Nine.{nine_most}
 use Rattle.time_writer.proofs.Lengths.{fraction_some}
 use Rattle.time_writer.proofs.fraction_length.Goals as goal
 

@@ -1,5 +1,4 @@
 -- Two digits, a colon, two digits, a colon, two digits.
-use borrow.Author.Rules.{rules}
 use Rattle.text.proofs.Laws.{then_puts}
 use Rattle.writing.specs.Spelling.{clock_spelling}
 use Rattle.time_writer.proofs.put_clock.Goals as goal

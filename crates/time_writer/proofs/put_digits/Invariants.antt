@@ -1,14 +1,9 @@
 -- After i turns the first i digits are put.
-use Prim.Native.Nat.{◌-◌, ◌/◌, ◌^◌, ◌≤◌, ◌<◌}
-use mathlib.Core.Path.{◌≡◌, refl, ◌∙◌}
-use native.Mathlib.Omega.{arith}
-use native.Mathlib.Numerals.{add-one}
-use borrow.Author.Rules.{rules}
+use Prim.Native.Nat.{◌-◌, ◌/◌, ◌^◌, ◌≤◌}
+use mathlib.Core.Path.{◌≡◌}
 use lib.ListN.{length}
 use Rattle.text.specs.Text.{Puts}
-use Rattle.text.proofs.Laws.{puts_nothing, then_puts}
 use Rattle.writing.specs.Spelling.{padded}
-use Rattle.time_writer.proofs.Nine.{tenth, first_digits, a_digit}
 use Rattle.time_writer.proofs.put_digits.Given as goal
 
 abbrev pub invariant-loop-i : goal.invariant-loop-i

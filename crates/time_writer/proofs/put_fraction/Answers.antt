@@ -1,9 +1,8 @@
 -- Nothing, or the point and the first digits of nine.
-use borrow.Author.Rules.{rules}
 use borrow.Author.Tests.{eq-eqb, ne_eqb}
 use Rattle.text.proofs.Laws.{puts_nothing, then_puts}
 use Rattle.writing.specs.Spelling.{fraction_spelling}
-use Rattle.time_writer.proofs.Nine.{nine_most, first_of_nine}
+use Rattle.time_writer.proofs.Nine.{first_of_nine}
 use Rattle.time_writer.proofs.put_fraction.Goals as goal
 
 pub returns-then-digits-eq0 : goal.returns-then-digits-eq0

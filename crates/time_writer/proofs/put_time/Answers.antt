@@ -1,5 +1,4 @@
 -- The clock, the fraction and the offset are put one behind the other.
-use borrow.Author.Rules.{rules}
 use Rattle.text.proofs.Laws.{then_puts}
 use Rattle.writing.specs.Spelling.{time_spelling}
 use Rattle.time_writer.proofs.put_time.Goals as goal

@@ -1,5 +1,4 @@
 -- Nothing, or the offset's spelling.
-use borrow.Author.Rules.{rules}
 use Rattle.text.proofs.Laws.{puts_nothing}
 use Rattle.writing.specs.Spelling.{time_offset_spelling}
 use Rattle.time_writer.proofs.put_time_offset.Goals as goal

@@ -2,7 +2,6 @@
 use mathlib.Core.Path.{◌≡◌, sym, ◌∙◌}
 use mathlib.Core.Bool.{true, false}
 use native.Mathlib.Omega.{arith}
-use borrow.Author.Rules.{rules}
 use Rattle.types.specs.declared.Choices.{Choices}
 use Rattle.types.specs.declared.Time.{Time}
 use Rattle.parser.proofs.Fields.{and_right}

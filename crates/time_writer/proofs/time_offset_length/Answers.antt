@@ -1,5 +1,4 @@
 -- Nothing, or what the offset's own writer measures.
-use borrow.Author.Rules.{rules}
 use Rattle.writing.specs.Spelling.{time_offset_spelling}
 use Rattle.writing.proofs.Laws.{measures_is}
 use Rattle.offset_writer.proofs.Laws.{offset_spells}

@@ -1,7 +1,6 @@
 -- The length first, then the bytes.
 use native.Mathlib.Omega.{arith}
-use borrow.Author.Rules.{rules}
-use Rattle.writing.proofs.Laws.{measured_long, measured_none, unread_writes, short_writes, put_writes}
+use Rattle.writing.proofs.Laws.{measured_long, put_writes}
 use Rattle.time_writer.proofs.Laws.{time_spells}
 use Rattle.time_writer.proofs.write_time.Goals as goal
 
