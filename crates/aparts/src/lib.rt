@@ -3,22 +3,25 @@
 // exports' tirozhbar.h.
 #![tactic(auto)]
 
-ghost use Rattle.std.specs.Prelude.{◌≡◌, ◌∷◌, [], ◌≤◌, pos, length};
+ghost use Rattle.std.specs.Prelude.{◌≡◌, ◌≤◌, length};
 ghost use Rattle.slots.specs.Slots.{over};
-ghost use Rattle.aparts.specs.Promise.{ApartIn, ApartUnder};
+ghost use Rattle.aparts.specs.Promise.{apart_slots, ApartIn, ApartUnder};
 
-use moments::Apart;
-use slots::{Chosen, NO_SUCH_CHOICE, TOO_FEW};
+use moments::{Apart, Faulty};
+use slots::{NO_SUCH_CHOICE, TOO_FEW};
 use types::Choices;
 
 // The three slots.
-fn put(slots: &mut [i64], seconds: i64, nanoseconds: u32, refused: u32)
+fn put(slots: &mut [i64], told: Result<Apart, Faulty>)
     requires { 3 ≤ length slots.old }
-    ensures { slots.new ≡ over (seconds ∷ pos nanoseconds ∷ pos refused ∷ []) slots.old }
+    ensures { slots.new ≡ over (apart_slots told) slots.old }
 {
-    slots[0] = seconds;
-    slots[1] = nanoseconds as i64;
-    slots[2] = refused as i64;
+    let three = match told {
+        Ok(apart) => [apart.seconds, apart.nanoseconds as i64, 0],
+        Err(Faulty::First(_)) => [0, 0, 1],
+        Err(Faulty::Second(_)) => [0, 0, 2],
+    };
+    slots[..3].copy_from_slice(&three);
 }
 
 // Tells how far the second text's date-time lies behind the first's.
@@ -29,23 +32,8 @@ fn apart(first: &[u8], second: &[u8], slots: &mut [i64], choices: Choices) -> u3
         return TOO_FEW;
     }
     let told = gaps::apart(first, second, choices);
-    match told {
-        Apart::By {
-            seconds,
-            nanoseconds,
-        } => {
-            put(slots, seconds, nanoseconds, 0);
-            0
-        }
-        Apart::First(fault) => {
-            put(slots, 0, 0, 1);
-            fault.number()
-        }
-        Apart::Second(fault) => {
-            put(slots, 0, 0, 2);
-            fault.number()
-        }
-    }
+    put(slots, told);
+    moments::number(told)
 }
 
 // The same for C: a number names the choices.
@@ -58,9 +46,8 @@ pub extern "C" fn tirozhbar_apart(
 ) -> u32
     ensures { ApartUnder choices first.now second.now slots.old slots.new result }
 {
-    let chosen = slots::choices_of(choices);
-    match chosen {
-        Chosen::Names(named) => apart(first, second, slots, named),
-        Chosen::Unknown => NO_SUCH_CHOICE,
+    match slots::choices_of(choices) {
+        Some(named) => apart(first, second, slots, named),
+        None => NO_SUCH_CHOICE,
     }
 }

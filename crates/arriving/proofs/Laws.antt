@@ -13,18 +13,16 @@ use Rattle.types.specs.declared.Verdict.{Verdict}
 use Rattle.types.specs.declared.Verdict.TheVariants.{Settled, Open}
 use Rattle.parser.specs.Reading.{Found, no, got, stop, Reader, pick}
 use Rattle.parser.specs.Answer.{begun, ended, Judged}
+use Rattle.parser.specs.declared.answer.Read.{Read}
 use Rattle.parser.proofs.Fields.{true≢false}
 use Rattle.parser.proofs.Verdict.{begins_once}
 use Rattle.kinds.specs.declared.answer.Kind.{Kind}
 use Rattle.kinds.specs.declared.answer.Record.{Record}
-use Rattle.kinds.specs.declared.answer.Answer.{Answer}
-use Rattle.kinds.specs.declared.answer.Read.{Read}
-use Rattle.kinds.specs.Kinds.{rule_of, bound, Reads, Parses}
+use Rattle.kinds.specs.Kinds.{Answer, rule_of, bound, Reads, Parses}
 use Rattle.kinds.proofs.Laws.{bounded}
 use Rattle.kinds.proofs.Once.{told_once, read_once, parsed_once}
 use Rattle.arriving.specs.declared.State.{State}
-use Rattle.arriving.specs.declared.Stepped.{Stepped}
-use Rattle.arriving.specs.Keeping.{push_one, pushes, started, stepped, text_of, carry, moved, found_in, Answers, Ends}
+use Rattle.arriving.specs.Keeping.{Stepped, push_one, pushes, started, stepped, text_of, carry, moved, found_in, Answers, Ends}
 use Rattle.arriving.specs.Pieces.{steps, accept, accepts, accepted_of, Faithful, join_all}
 use Rattle.arriving.proofs.Pushing.{one_kind}
 use Rattle.arriving.proofs.Moves.{over, over_kept, told_moved, begun_moved, told_moved_once}
@@ -107,7 +105,7 @@ module _ (st : State) (s : List ℕ) (h : Stands st s) where
     (other.1.0, λ e. other.1.1 (told_moved_once (over st) h.rises _ _ (sym (told_on other.0) ∙ e ∙ told_now))),
   )
 
-  pub answers_reads : (r : Read) → Answers st r → Reads st.kind s r
+  pub answers_reads : (r : Read Record) → Answers st r → Reads st.kind s r
   answers_reads r a = record { answer = a.answer ∙ ap begun found_in_lem; verdict = judged r.verdict a.verdict }
 
   pub ends_parses : (a : Answer) → Ends st a → Parses st.kind s a
@@ -136,7 +134,7 @@ faithful k ps = record {
     number p false = refl
 
 -- however the bytes were cut: where the same is accepted, the same is answered
-pub answer_however_cut : (k : Kind) (ps qs : List (List ℕ)) → accepted_of ps ≡ accepted_of qs → (a b : Read) → Answers (steps (started k) ps) a → Answers (steps (started k) qs) b → a ≡ b
+pub answer_however_cut : (k : Kind) (ps qs : List (List ℕ)) → accepted_of ps ≡ accepted_of qs → (a b : Read Record) → Answers (steps (started k) ps) a → Answers (steps (started k) qs) b → a ≡ b
 answer_however_cut k ps qs e a b h g = read_once k (accepted_of qs) a b (rw e at ((faithful k ps).answers a h)) ((faithful k qs).answers b g)
 
 pub end_however_cut : (k : Kind) (ps qs : List (List ℕ)) → accepted_of ps ≡ accepted_of qs → (a b : Answer) → Ends (steps (started k) ps) a → Ends (steps (started k) qs) b → a ≡ b
@@ -156,7 +154,7 @@ accepted_whole ps h = all_accepted ps [] h
 
 -- ---- no two answers meet one promise, whatever the state
 
-pub answers_once : (st : State) (a b : Read) → Answers st a → Answers st b → a ≡ b
+pub answers_once : (st : State) (a b : Read Record) → Answers st a → Answers st b → a ≡ b
 answers_once st a b h g =
     let all = begun ((rule_of st.kind).reads (text_of st) 0) in
     let v = (begins_once (bound st.kind) (rule_of st.kind) (text_of st) all all a.verdict b.verdict (record { answer = refl; verdict = h.verdict }) (record { answer = refl; verdict = g.verdict })).1 in

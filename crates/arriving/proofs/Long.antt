@@ -7,13 +7,14 @@ use native.Mathlib.Omega.{arith}
 use borrow.Author.Tests.{lt-leb}
 use Rattle.parser.specs.Reading.{got, lit, seq, opt, verify, map, give}
 use Rattle.parser.specs.Answer.{recorded, begun}
+use Rattle.parser.specs.Told.{told}
+use Rattle.parser.specs.declared.answer.Read.{Read}
 use Rattle.parser.specs.Digits.{is_digit, digits, number_from, run_as}
 use Rattle.duration.specs.Rules.{part, duration_base_time, duration_time, parts_rule, duration}
 use Rattle.kinds.specs.declared.answer.Kind.TheVariants as kind
 use Rattle.kinds.specs.declared.answer.Record.{Record}
 use Rattle.kinds.specs.declared.answer.Record.TheVariants as record_of
-use Rattle.kinds.specs.declared.answer.Read.{Read}
-use Rattle.kinds.specs.Kinds.{rule_of, told}
+use Rattle.kinds.specs.Kinds.{rule_of}
 use Rattle.shortening.proofs.Families.{ZeroCut, zeros, own}
 use Rattle.shortening.proofs.Sides.{one_family}
 use Rattle.shortening.proofs.EachKind.{shortens}
@@ -45,5 +46,5 @@ long_zeros (suc zero) = zero_more 49 (89 ∷ []) refl ∙ ap (moved (shift 1)) o
 long_zeros (suc (suc n)) = zero_more 48 (zeros_and_one n) refl ∙ ap (moved (shift 1)) (long_zeros (suc n)) ∙ ap (got one_year) (rw (lt-leb (suc n + 3) 1 (omega arith)) (omega arith))
 
 -- so after any pieces that make such a text the answer has its whole count
-pub long_counted : (n : ℕ) (ps : List (List ℕ)) → accepted_of ps ≡ 80 ∷ zeros_and_one n → (r : Read) → Answers (steps (started kind.Duration) ps) r → told r.answer ≡ recorded one_year (n + 3)
+pub long_counted : (n : ℕ) (ps : List (List ℕ)) → accepted_of ps ≡ 80 ∷ zeros_and_one n → (r : Read Record) → Answers (steps (started kind.Duration) ps) r → told r.answer ≡ recorded one_year (n + 3)
 long_counted n ps e r a = ((faithful kind.Duration ps).answers r a).answer ∙ ap begun (ap (λ (s : List ℕ). (rule_of kind.Duration).reads s 0) e ∙ long_zeros n)

@@ -6,8 +6,8 @@ use mathlib.Core.Path.{◌≡◌, refl, sym, ◌∙◌}
 use native.Mathlib.Nat.{add-zero}
 use native.Mathlib.Numerals.{add-one}
 use native.Mathlib.Omega.{arith}
-use lib.ListN.{length, get_or, take, drop, set, length-drop, take-append-drop, drop_of_length-le}
-use lib.Seq.{take-suc, take_all, drop-cons, get_or-drop, set-get_or, set-set}
+use lib.ListN.{length, get_or, take, drop, set, length-drop, take-append-drop}
+use lib.Seq.{take-suc, take_all, get_or-drop, set-get_or, set-set}
 use lib.Dec.{ltb, eqb}
 use borrow.Author.Tests.{lt-ltb, le-ltb, ne_eqb, ltb-true, eqb-true}
 use Rattle.parser.specs.Reading.{pick, or, and}
@@ -99,17 +99,13 @@ joins_some mark n b j = go (joinable mark) (ltb 0 n) refl j
 
 -- ---- a run of zeros, joined at one go
 
-pub zero_step : (s : List ℕ) (i : ℕ) → i < length s → get_or s i 0 ≡ 48 → zero_run (drop i s) ≡ zero_run (drop (i + 1) s) + 1
+pub zero_none : (b : ℕ) (s : List ℕ) → (b ≡ 48 → ⊥) → zero_run (b ∷ s) ≡ 0
 unfolding zero_run
-zero_step s i h e = rw (add-one i, add-one (zero_run (drop (suc i) s)), drop-cons s i 0 h, e)
+zero_none b s e = rw (ne_eqb b 48 e)
 
-pub zero_none : (s : List ℕ) (i : ℕ) → i < length s → (get_or s i 0 ≡ 48 → ⊥) → zero_run (drop i s) ≡ 0
+pub zero_more : (b : ℕ) (s : List ℕ) → b ≡ 48 → zero_run (b ∷ s) ≡ zero_run s + 1
 unfolding zero_run
-zero_none s i h e = rw (drop-cons s i 0 h, ne_eqb (get_or s i 0) 48 e)
-
-pub zero_end : (s : List ℕ) (i : ℕ) → length s ≤ i → zero_run (drop i s) ≡ 0
-unfolding zero_run
-zero_end s i h = rw (drop_of_length-le s {i = i} h)
+zero_more b s e = rw (e, add-one (zero_run s))
 
 record ZeroAt (s : List ℕ) (k : ℕ) : Type 0 where
   here : k < length s
@@ -182,8 +178,8 @@ runs so byte m n = record {
 
 module _ (st : State) (piece : List ℕ) (so : State) (i byte m : ℕ) (may : joinable m ≡ true) (some : 0 < so.len) (room : so.len < 200) where
   -- one zero more
-  run_more : (n : ℕ) → Pushed st piece (runs so byte m n) (i + n) → ZeroAt piece (i + n) → Pushed st piece (runs so byte m (suc n)) (i + suc n)
-  run_more n g z =
+  got_more : (n : ℕ) → Pushed st piece (runs so byte m n) (i + n) → ZeroAt piece (i + n) → Pushed st piece (runs so byte m (suc n)) (i + suc n)
+  got_more n g z =
       let last = so.len - 1 in
       let old = get_or (set so.kept last byte) last 0 in
       let j : joins (runs so byte m n) (get_or piece (i + n) 0) ≡ true = rw (z.zero, lt-ltb 0 so.len some, may) in
@@ -204,7 +200,7 @@ module _ (st : State) (piece : List ℕ) (so : State) (i : ℕ) (g : Pushed st p
   run_on zero k =
       let a : so.accepted + 1 - 1 ≡ so.accepted = omega arith in
       rw a (pushed_joined st piece so i g h m me room byte be j)
-  run_on (suc n) k = run_more st piece so i byte m (run_mark (omega arith)) (joins_some so.mark so.len (get_or piece i 0) j) room (suc n) (run_on n (omega arith)) (zero_at piece i (suc n) (omega arith))
+  run_on (suc n) k = got_more st piece so i byte m (run_mark (omega arith)) (joins_some so.mark so.len (get_or piece i 0) j) room (suc n) (run_on n (omega arith)) (zero_at piece i (suc n) (omega arith))
 
   pub pushed_run : (end : ℕ) → end ≡ i + max 1 (zero_run (drop i piece)) → Pushed st piece (runs so byte m (end - i)) end
   pushed_run end e =
@@ -217,8 +213,3 @@ module _ (st : State) (piece : List ℕ) (so : State) (i : ℕ) (g : Pushed st p
 pub carry_last : (st : State) (n : ℕ) → (n ≡ 0 → ⊥) → get_or st.places (n - 1) 0 + 1 ≡ carry st n
 carry_last st zero h = absurd (h refl)
 carry_last st (suc n) h = let e : suc n - 1 ≡ n = omega arith in rw e
-
--- and before the first
-pub carry_none : (st : State) (n : ℕ) → n ≤ 0 → n ≡ carry st n
-carry_none st zero h = refl
-carry_none st (suc n) h = absurd (omega arith)

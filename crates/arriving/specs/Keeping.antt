@@ -1,18 +1,19 @@
 -- The state of a record that arrives in pieces: what each function makes of any state.
-use Rattle.std.specs.Prelude.{ℕ, zero, suc, ◌+◌, ◌-◌, List, [], ◌∷◌, Bool, ◌≡◌, length, get_or, take, set, replicate, ltb, leb, eqb}
+use Rattle.std.specs.Prelude.{ℕ, zero, suc, ◌+◌, ◌-◌, List, [], ◌∷◌, Bool, Result, ◌≡◌, length, get_or, take, set, replicate, ltb, leb, eqb}
+use Rattle.std.specs.declared.result.Result.TheVariants.{Ok, Err}
 use Rattle.parser.specs.Reading.{Found, no, got, stop, pick, or, and, within}
 use Rattle.parser.specs.Digits.{is_digit}
 use Rattle.parser.specs.Answer.{begun, ended, Judged}
+use Rattle.parser.specs.Told.{told}
+use Rattle.parser.specs.declared.answer.Read.{Read}
 use Rattle.shortening.specs.Points.{is_point}
 use Rattle.shortening.specs.Sides.{starts_zeros, has_sides}
 use Rattle.kinds.specs.declared.answer.Kind.{Kind}
 use Rattle.kinds.specs.declared.answer.Kind.TheVariants as kind
 use Rattle.kinds.specs.declared.answer.Record.{Record}
-use Rattle.kinds.specs.declared.answer.Answer.{Answer}
-use Rattle.kinds.specs.declared.answer.Read.{Read}
-use Rattle.kinds.specs.Kinds.{rule_of, bound, told}
+use Rattle.kinds.specs.Kinds.{Answer, rule_of, bound}
 use Rattle.arriving.specs.declared.State.{State}
-use Rattle.arriving.specs.declared.Stepped.{Stepped}
+use Rattle.arriving.specs.declared.TooLong.{TooLong}
 
 -- What is dropped: the leading zeros of a duration's runs; elsewhere the fraction's digits past the tenth; of an interval, in each side what
 -- its first byte says. The mark tells which, and what the kept bytes end in. Where zeros are dropped: 17, no digit (or nothing at all); 27, a 0
@@ -85,6 +86,15 @@ zero_run (b ∷ p) = pick (eqb b 48) (suc (zero_run p)) 0
 abbrev pub started : Kind → State
 started k = record { kind = k; kept = replicate 200 0; places = replicate 200 0; len = 0; mark = first_mark k; accepted = 0 }
 
+-- the next state and 0; or the same state and 6
+pub record Stepped : Type 0 where
+  pub state : State
+  pub number : ℕ
+
+abbrev pub step_number : Result Unit TooLong → ℕ
+step_number (Ok u) = 0
+step_number (Err e) = 6
+
 -- "6, exactly when the accepted bytes would pass 4,294,967,295 in all; the state is unchanged"
 abbrev pub stepped : State → List ℕ → Stepped
 stepped st p = pick (leb (st.accepted + length p) 4294967295) (record { state = pushes st p; number = 0 }) (record { state = st; number = 6 })
@@ -108,7 +118,7 @@ abbrev pub found_in : State → Found Record
 found_in st = moved (carry st) ((rule_of st.kind).reads (text_of st) 0)
 
 -- what is said of any state: the kept bytes' answer, its count carried over, and their verdict
-pub record Answers (st : State) (r : Read) : Type 0 where
+pub record Answers (st : State) (r : Read Record) : Type 0 where
   pub answer : told r.answer ≡ begun (found_in st)
   pub verdict : Judged (bound st.kind) (rule_of st.kind) (text_of st) r.verdict
 

@@ -1,10 +1,10 @@
 -- Steps from a start: the state that they lead to, and everything accepted so far.
 use Rattle.std.specs.Prelude.{ℕ, ◌+◌, List, [], ◌∷◌, ◌++◌, ◌≡◌, length, leb}
 use Rattle.parser.specs.Reading.{pick}
+use Rattle.parser.specs.declared.answer.Read.{Read}
 use Rattle.kinds.specs.declared.answer.Kind.{Kind}
-use Rattle.kinds.specs.declared.answer.Answer.{Answer}
-use Rattle.kinds.specs.declared.answer.Read.{Read}
-use Rattle.kinds.specs.Kinds.{Reads, Parses}
+use Rattle.kinds.specs.declared.answer.Record.{Record}
+use Rattle.kinds.specs.Kinds.{Answer, Reads, Parses}
 use Rattle.arriving.specs.declared.State.{State}
 use Rattle.arriving.specs.Keeping.{stepped, Answers, Ends}
 
@@ -28,7 +28,7 @@ accepted_of ps = accepts [] ps
 -- What is promised of a state that steps from a start lead to, over the bytes accepted so far: "the answer and verdict are those of the
 -- beginning reader on everything accepted so far, however it was cut, and an end call gives the whole reader's", and when a step is refused.
 pub record Faithful (k : Kind) (s : List ℕ) (st : State) : Type 0 where
-  pub answers : (r : Read) → Answers st r → Reads k s r
+  pub answers : (r : Read Record) → Answers st r → Reads k s r
   pub ends : (a : Answer) → Ends st a → Parses k s a
   pub number : (p : List ℕ) → (stepped st p).number ≡ pick (leb (length s + length p) 4294967295) 0 6
 

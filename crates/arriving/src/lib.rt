@@ -5,11 +5,12 @@
 // of each the place where it stood (specs/Keeping.antt).
 #![tactic(auto)]
 
-ghost use Rattle.std.specs.Prelude.{◌+◌, ◌<◌, min, max, ◌≡◌, length, drop};
-ghost use Rattle.arriving.specs.Keeping.{joined, zero_run, started, stepped, Answers, Ends};
+ghost use Rattle.std.specs.Prelude.{◌+◌, ◌<◌, max, ◌≡◌, length, drop};
+ghost use Rattle.arriving.specs.Keeping.{joined, zero_run, started, stepped, step_number, Answers, Ends};
 
 use crate::marks::{first_mark, has_sides, joins, next_mark};
 use kinds::answer::{Answer, Kind, Read};
+use parser::answer::{Counted, Refused};
 use types::Refusal;
 
 mod marks;
@@ -21,42 +22,26 @@ pub const ROOM: usize = 200;
 pub const MOST: usize = 4294967295;
 
 // The kept bytes and the place of each in the input, how many they are, what the last of them tell (`next_mark`), and how many were accepted.
+// Kept: two arrays and their length in place of a list, since a state is fixed memory, with no heap.
 #[derive(Clone, Copy)]
 pub struct State {
     pub kind: Kind,
-    pub kept: [u8; 200],
-    pub places: [u32; 200],
+    pub kept: [u8; ROOM],
+    pub places: [u32; ROOM],
     pub len: usize,
     pub mark: u8,
     pub accepted: u32,
 }
 
-// The next state and 0, or the same state and 6, where so many bytes were accepted that the piece would make them too many.
+// A piece would make the accepted bytes too many.
 #[derive(Clone, Copy)]
-pub struct Stepped {
-    pub state: State,
-    pub number: u32,
-}
+pub struct TooLong;
 
 // One digit for two, 0 where both are.
 fn join(last: u8, b: u8) -> u8
     ensures { result ≡ joined last b }
 {
-    if last == 48 { b } else { last }
-}
-
-// The place behind the zeros that stand from `i` on.
-fn zeros_end(piece: &[u8], i: usize) -> usize
-    ensures { result ≡ i + zero_run (drop i piece.now) }
-{
-    let mut end = i;
-    while end < piece.len() {
-        if piece[end] != 48 {
-            return end;
-        }
-        end += 1;
-    }
-    end
+    if last == b'0' { b } else { last }
 }
 
 // The place behind what is joined at one go: all zeros, since the second changes neither the digit nor the mark, or one digit.
@@ -64,102 +49,82 @@ fn run_end(piece: &[u8], i: usize) -> usize
     requires { i < length piece.now }
     ensures { result ≡ i + max 1 (zero_run (drop i piece.now)) }
 {
-    if piece[i] == 48 {
-        zeros_end(piece, i)
-    } else {
-        i + 1
-    }
+    let rest = &piece[i..];
+    let zeros = rest.iter().position(|b| *b != b'0').unwrap_or(rest.len());
+    i + zeros.max(1)
 }
 
 // Nothing accepted yet, of a record of the kind.
 pub fn start(kind: Kind) -> State
     ensures { result ≡ started kind }
 {
-    let mark = first_mark(kind);
     State {
         kind,
-        kept: [0u8; ROOM],
-        places: [0u32; ROOM],
+        kept: [0; ROOM],
+        places: [0; ROOM],
         len: 0,
-        mark,
+        mark: first_mark(kind),
         accepted: 0,
     }
 }
 
-// Accepts a piece, of no bytes or many, or refuses it whole. Each byte in turn, while there is room; what is left is only counted.
-pub fn step(mut state: State, piece: &[u8]) -> Stepped
-    ensures { result ≡ stepped state piece.now }
+// Accepts a piece, of no bytes or many, or refuses it whole and leaves the state as it was. Each byte in turn, while there is room; what is left is
+// only counted.
+#[tactic(auto, using(crate::proofs::Pushing::run_within, crate::proofs::Pushing::pushed_none))]
+pub fn step(state: &mut State, piece: &[u8]) -> Result<(), TooLong>
+    ensures state { state.new ≡ (stepped state.old piece.now).state }
+    ensures number { step_number result ≡ (stepped state.old piece.now).number }
 {
-    let mut accepted = state.accepted;
-    if MOST - (accepted as usize) < piece.len() {
-        return Stepped { state, number: 6 };
+    if MOST - (state.accepted as usize) < piece.len() {
+        return Err(TooLong);
     }
     let sides = has_sides(state.kind);
-    let mut len = state.len;
-    let mut mark = state.mark;
     let mut i = 0;
-    while i < piece.len() {
-        if ROOM <= len {
-            break;
-        }
+    // Kept: the place moves on by several bytes where zeros are joined at one go.
+    while i < piece.len() && state.len < ROOM {
         let b = piece[i];
-        let next = next_mark(sides, mark, b);
-        if joins(mark, len, b) {
-            let last = len - 1;
-            let old = state.kept[last];
+        let joined = joins(state.mark, state.len, b);
+        state.mark = next_mark(sides, state.mark, b);
+        if joined {
+            let last = state.len - 1;
             let end = run_end(piece, i);
-            accepted += (end - i) as u32;
-            state.kept[last] = join(old, b);
-            state.places[last] = accepted - 1;
+            state.accepted += (end - i) as u32;
+            state.kept[last] = join(state.kept[last], b);
+            state.places[last] = state.accepted - 1;
             i = end;
         } else {
-            state.kept[len] = b;
-            state.places[len] = accepted;
-            len += 1;
-            accepted += 1;
+            state.kept[state.len] = b;
+            state.places[state.len] = state.accepted;
+            state.len += 1;
+            state.accepted += 1;
             i += 1;
         }
-        mark = next;
     }
-    state.len = len;
-    state.mark = mark;
-    state.accepted = accepted + (piece.len() - i) as u32;
-    Stepped { state, number: 0 }
-}
-
-// No more than there is room for.
-fn held(len: usize) -> usize
-    ensures { result ≡ min len 200 }
-{
-    if len < ROOM { len } else { ROOM }
+    state.accepted += (piece.len() - i) as u32;
+    Ok(())
 }
 
 // What the beginning reader says of all that was accepted: what it says of the kept bytes, the count up to the place of the last that it read.
+#[tactic(auto, using(crate::proofs::Answering::held_text, crate::proofs::Pushing::carry_last))]
 pub fn answer(state: State) -> Read
     ensures { Answers state result }
 {
     let kept = state.kept;
-    let kind = state.kind;
-    let len = held(state.len);
-    let read = kinds::read(kind, &kept[..len]);
-    let verdict = read.verdict;
-    let short = read.answer;
-    match short {
-        Answer::Record { value, count: n } => {
-            let places = state.places;
-            let mut count = n;
-            if 0 < n {
-                count = places[n - 1] as usize + 1;
-            }
-            Read {
-                answer: Answer::Record { value, count },
-                verdict,
-            }
-        }
-        Answer::Refused { why, count } => Read {
-            answer: Answer::Refused { why, count },
-            verdict,
-        },
+    let read = kinds::read(state.kind, &kept[..state.len.min(ROOM)]);
+    let Ok(found) = read.answer else {
+        return read;
+    };
+    let places = state.places;
+    let count = match found.count {
+        0 => 0,
+        n => places[n - 1] as usize + 1,
+    };
+    Read {
+        answer: Ok(Counted {
+            value: found.value,
+            count,
+        }),
+        verdict: read.verdict,
     }
 }
 
@@ -167,18 +132,12 @@ pub fn answer(state: State) -> Read
 pub fn end(state: State) -> Answer
     ensures { Ends state result }
 {
-    let accepted = state.accepted as usize;
-    let begun = answer(state).answer;
-    match begun {
-        Answer::Record { value, count } => {
-            if count < accepted {
-                return Answer::Refused {
-                    why: Refusal::LeftOver,
-                    count,
-                };
-            }
-            Answer::Record { value, count }
-        }
-        Answer::Refused { why, count } => Answer::Refused { why, count },
+    let found = answer(state).answer?;
+    if found.count < state.accepted as usize {
+        return Err(Refused {
+            why: Refusal::LeftOver,
+            count: found.count,
+        });
     }
+    Ok(found)
 }

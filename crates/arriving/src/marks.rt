@@ -8,6 +8,10 @@ ghost use Rattle.arriving.specs.Keeping.{first_mark, drops_zeros, zero_mark, poi
 
 use kinds::answer::Kind;
 
+// Kept: marks are numbers and no enum, since the digits of a fraction are counted in them, and the laws of `Tidy` compute with that.
+// A comma or point; each digit behind it is one more.
+const POINT: u8 = 1;
+
 // The tenth digit behind a comma or point.
 const TENTH: u8 = 11;
 
@@ -26,52 +30,42 @@ const SIDE: u8 = 32;
 pub fn has_sides(kind: Kind) -> bool
     ensures { result ≡ has_sides kind }
 {
-    match kind {
-        Kind::Date => false,
-        Kind::Time(_) => false,
-        Kind::Offset => false,
-        Kind::Stamp(_) => false,
-        Kind::Duration => false,
-        Kind::Interval(_) => true,
-    }
+    matches!(kind, Kind::Interval(_))
 }
 
 pub fn first_mark(kind: Kind) -> u8
     ensures { result ≡ first_mark kind }
 {
     match kind {
-        Kind::Date => 0,
-        Kind::Time(_) => 0,
-        Kind::Offset => 0,
-        Kind::Stamp(_) => 0,
-        Kind::Duration => FRESH,
         Kind::Interval(_) => SIDE,
+        Kind::Duration => FRESH,
+        _ => 0,
     }
 }
 
 fn starts_zeros(b: u8) -> bool
     ensures { result ≡ starts_zeros b }
 {
-    b == 80 || b == 82
+    b == b'P' || b == b'R'
 }
 
 fn is_digit(b: u8) -> bool
     ensures { result ≡ is_digit b }
 {
-    48 <= b && b <= 57
+    b.is_ascii_digit()
 }
 
 fn is_point(b: u8) -> bool
     ensures { result ≡ is_point b }
 {
-    b == 44 || b == 46
+    b == b',' || b == b'.'
 }
 
 // A `/` begins a side.
 fn begins_side(sides: bool, b: u8) -> bool
     ensures { result ≡ and sides (eqb b 47) }
 {
-    sides && b == 47
+    sides && b == b'/'
 }
 
 // By a side's first byte, and behind it by the mark.
@@ -79,9 +73,10 @@ fn drops_zeros(mark: u8, b: u8) -> bool
     ensures { result ≡ drops_zeros mark b }
 {
     if mark == SIDE {
-        return starts_zeros(b);
+        starts_zeros(b)
+    } else {
+        ZEROS <= mark
     }
-    ZEROS <= mark
 }
 
 // No digit but a 0 stands before.
@@ -94,44 +89,46 @@ fn is_leading(mark: u8) -> bool
 fn zero_mark(mark: u8, b: u8) -> u8
     ensures { result ≡ zero_mark mark b }
 {
-    if is_digit(b) {
-        if is_leading(mark) {
-            return if b == 48 { ZERO } else { ZEROS };
-        }
-        return ZEROS;
+    if !is_digit(b) {
+        FRESH
+    } else if b == b'0' && is_leading(mark) {
+        ZERO
+    } else {
+        ZEROS
     }
-    FRESH
 }
 
 // A comma or point stands before, and at most ten digits behind it.
 fn is_fraction(mark: u8) -> bool
     ensures { result ≡ within 1 11 mark }
 {
-    1 <= mark && mark <= TENTH
+    POINT <= mark && mark <= TENTH
 }
 
 fn point_mark(mark: u8, b: u8) -> u8
     ensures { result ≡ point_mark mark b }
 {
-    if is_digit(b) {
-        if is_fraction(mark) {
-            return if mark < TENTH { mark + 1 } else { TENTH };
-        }
-        return 0;
+    if !is_digit(b) {
+        return if is_point(b) { POINT } else { 0 };
     }
-    if is_point(b) { 1 } else { 0 }
+    if is_fraction(mark) {
+        TENTH.min(mark + 1)
+    } else {
+        0
+    }
 }
 
+#[tactic(auto, unfolding(crate::specs::Keeping::next_mark))]
 pub fn next_mark(sides: bool, mark: u8, b: u8) -> u8
     ensures { result ≡ next_mark sides mark b }
 {
     if begins_side(sides, b) {
-        return SIDE;
+        SIDE
+    } else if drops_zeros(mark, b) {
+        zero_mark(mark, b)
+    } else {
+        point_mark(mark, b)
     }
-    if drops_zeros(mark, b) {
-        return zero_mark(mark, b);
-    }
-    point_mark(mark, b)
 }
 
 fn is_joinable(mark: u8) -> bool
@@ -144,8 +141,5 @@ fn is_joinable(mark: u8) -> bool
 pub fn joins(mark: u8, len: usize, b: u8) -> bool
     ensures { result ≡ joins_to mark len b }
 {
-    if is_joinable(mark) {
-        return 0 < len && is_digit(b);
-    }
-    false
+    is_joinable(mark) && 0 < len && is_digit(b)
 }

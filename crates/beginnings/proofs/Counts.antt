@@ -1,4 +1,4 @@
--- What the functions stand on: the greatest count of one beginning more, the letter's kind, and a byte that is accepted.
+-- What the functions stand on: the greatest count of one beginning more, and a byte that is accepted.
 use Prim.Native.Nat.{ℕ, ◌+◌, ◌-◌, ◌<◌, max}
 use mathlib.Core.List.{List}
 use mathlib.Core.Path.{◌≡◌, refl, sym, ap, ◌∙◌}
@@ -7,30 +7,20 @@ use native.Mathlib.Omega.{arith}
 use lib.ListN.{length, take, drop, length-drop}
 use lib.Seq.{length-take-le, take-add}
 use borrow.Author.Tests.{le-leb}
+use Rattle.parser.specs.Told.{told}
+use Rattle.parser.specs.declared.answer.Read.{Read}
 use Rattle.kinds.specs.declared.answer.Kind.{Kind}
-use Rattle.kinds.specs.declared.answer.Letter.{Letter}
-use Rattle.kinds.specs.declared.answer.Letter.TheVariants.{Names, Unknown}
-use Rattle.kinds.specs.declared.answer.Read.{Read}
-use Rattle.types.specs.Editions.{document01}
-use Rattle.kinds.specs.Kinds.{letter_of, told}
+use Rattle.kinds.specs.declared.answer.Record.{Record}
 use Rattle.arriving.specs.declared.State.{State}
 use Rattle.arriving.specs.Keeping.{stepped, Answers}
 use Rattle.arriving.specs.Pieces.{accept}
 use Rattle.arriving.proofs.Stands.{Stands}
 use Rattle.arriving.proofs.Laws.{step_stands, step_kind, answers_reads}
-use Rattle.beginnings.specs.Beginnings.{count_of, greatest, lettered}
+use Rattle.beginnings.specs.Beginnings.{count_of, greatest}
 
 pub greatest_more : (k : Kind) (s : List ℕ) (n : ℕ) → greatest k s (n + 1) ≡ max (greatest k s n) (count_of k (take (n + 1) s))
 unfolding greatest
 greatest_more k s n = rw (add-one n) refl
-
--- ---- the kind that a letter names
-
-pub lettered_names : (f : Kind → List ℕ → ℕ) (letter : ℕ) (s : List ℕ) (l : Letter) (k : Kind) (n : ℕ) → l ≡ letter_of document01 letter → l ≡ Names k → n ≡ f k s → n ≡ lettered f letter s
-lettered_names f letter s l k n e g h = rw (← e, g) h
-
-pub lettered_unknown : (f : Kind → List ℕ → ℕ) (letter : ℕ) (s : List ℕ) (l : Letter) → l ≡ letter_of document01 letter → l ≡ Unknown → 0 ≡ lettered f letter s
-lettered_unknown f letter s l e g = rw (← e, g) refl
 
 -- ---- a state that stands for some bytes of a kind
 
@@ -38,7 +28,7 @@ pub record Holds (k : Kind) (s : List ℕ) (st : State) : Type 0 where
   pub stands : Stands st s
   pub kind : st.kind ≡ k
 
-pub counted : (k : Kind) (s : List ℕ) (st : State) → Holds k s st → (r : Read) → Answers st r → (told r.answer).count ≡ count_of k s
+pub counted : (k : Kind) (s : List ℕ) (st : State) → Holds k s st → (r : Read Record) → Answers st r → (told r.answer).count ≡ count_of k s
 counted k s st h r a = ap (λ t. t.count) (rw h.kind at (answers_reads st s h.stands r a)).answer
 
 pub holds_step : (k : Kind) (s p : List ℕ) (st : State) → Holds k s st → Holds k (accept s p) (stepped st p).state

@@ -2,8 +2,8 @@
 use Rattle.std.specs.Prelude.{ℕ, zero, suc, min, max, List, [], length, take}
 use Rattle.parser.specs.Answer.{begun}
 use Rattle.kinds.specs.declared.answer.Kind.{Kind}
-use Rattle.kinds.specs.declared.answer.Letter.{Letter}
-use Rattle.kinds.specs.declared.answer.Letter.TheVariants.{Names, Unknown}
+use Rattle.std.specs.declared.option.Option.{Option}
+use Rattle.std.specs.declared.option.Option.TheVariants.{None, Some}
 use Rattle.types.specs.Editions.{document01}
 use Rattle.kinds.specs.Kinds.{rule_of, letter_of}
 use Rattle.arriving.specs.Pieces.{accept}
@@ -26,9 +26,9 @@ abbrev pub greatest_count : Kind → List ℕ → ℕ
 greatest_count k s = greatest k s (min (length s) 4294967295)
 
 -- of the kind that a letter names, and 0 where it names none
-abbrev pub named : (Kind → List ℕ → ℕ) → Letter → List ℕ → ℕ
-named f (Names k) s = f k s
-named f Unknown s = 0
+abbrev pub named : (Kind → List ℕ → ℕ) → Option Kind → List ℕ → ℕ
+named f (Some k) s = f k s
+named f None s = 0
 
 abbrev pub lettered : (Kind → List ℕ → ℕ) → ℕ → List ℕ → ℕ
 lettered f letter s = named f (letter_of document01 letter) s

@@ -2,71 +2,49 @@
 // names none gives 0.
 #![tactic(auto)]
 
-ghost use Rattle.std.specs.Prelude.{min, max, ◌≡◌};
+ghost use Rattle.std.specs.Prelude.{◌≡◌};
 ghost use Rattle.beginnings.specs.Beginnings.{count_of, count_accepted, greatest_count, lettered};
 
-use kinds::answer::{Kind, Letter};
+use kinds::answer::Kind;
+use parser::answer::count;
 use types::Choices;
-
-fn greater(a: usize, b: usize) -> usize
-    ensures { result ≡ max a b }
-{
-    if a < b { b } else { a }
-}
-
-// So many of n bytes are accepted, one by one.
-fn accepted(n: usize) -> usize
-    ensures { result ≡ min n 4294967295 }
-{
-    if n < arriving::MOST {
-        n
-    } else {
-        arriving::MOST
-    }
-}
 
 fn at_once(kind: Kind, s: &[u8]) -> usize
     ensures { result ≡ count_of kind s.now }
 {
-    let answer = kinds::read(kind, s).answer;
-    answer.count()
+    count(kinds::read(kind, s).answer)
 }
 
 fn one_piece(kind: Kind, s: &[u8]) -> usize
     ensures { result ≡ count_accepted kind s.now }
 {
-    let state = arriving::step(arriving::start(kind), s).state;
-    let answer = arriving::answer(state).answer;
-    answer.count()
+    let mut state = arriving::start(kind);
+    // A piece that is too long leaves the state as it was.
+    let _ = arriving::step(&mut state, s);
+    count(arriving::answer(state).answer)
 }
 
 // An answer after each byte.
 fn byte_by_byte(kind: Kind, s: &[u8]) -> usize
     ensures { result ≡ greatest_count kind s.now }
 {
-    let end = accepted(s.len());
     let mut state = arriving::start(kind);
-    let mut most = 0;
-    let mut i = 0;
-    while i < end {
-        state = arriving::step(state, &s[i..i + 1]).state;
-        i += 1;
-        let answer = arriving::answer(state).answer;
-        most = greater(most, answer.count());
+    let mut most = 0usize;
+    for i in 0..s.len().min(arriving::MOST) {
+        let _ = arriving::step(&mut state, &s[i..i + 1]);
+        most = most.max(count(arriving::answer(state).answer));
     }
     most
 }
 
 // The same beginnings, each read by itself.
+#[tactic(auto, unfolding(crate::specs::Beginnings::greatest), using(crate::proofs::Counts::greatest_more))]
 fn afresh(kind: Kind, s: &[u8]) -> usize
     ensures { result ≡ greatest_count kind s.now }
 {
-    let end = accepted(s.len());
-    let mut most = 0;
-    let mut i = 0;
-    while i < end {
-        i += 1;
-        most = greater(most, at_once(kind, &s[..i]));
+    let mut most = 0usize;
+    for i in 0..s.len().min(arriving::MOST) {
+        most = most.max(at_once(kind, &s[..i + 1]));
     }
     most
 }
@@ -76,10 +54,7 @@ fn afresh(kind: Kind, s: &[u8]) -> usize
 pub extern "C" fn tirozhbar_one_piece(letter: u8, s: &[u8]) -> usize
     ensures { result ≡ lettered count_accepted letter s.now }
 {
-    match kinds::kind_of(letter, Choices::DOCUMENT_01) {
-        Letter::Names(kind) => one_piece(kind, s),
-        Letter::Unknown => 0,
-    }
+    kinds::kind_of(letter, Choices::DOCUMENT_01).map_or(0, |kind| one_piece(kind, s))
 }
 
 // One reading: its count.
@@ -87,10 +62,7 @@ pub extern "C" fn tirozhbar_one_piece(letter: u8, s: &[u8]) -> usize
 pub extern "C" fn tirozhbar_at_once(letter: u8, s: &[u8]) -> usize
     ensures { result ≡ lettered count_of letter s.now }
 {
-    match kinds::kind_of(letter, Choices::DOCUMENT_01) {
-        Letter::Names(kind) => at_once(kind, s),
-        Letter::Unknown => 0,
-    }
+    kinds::kind_of(letter, Choices::DOCUMENT_01).map_or(0, |kind| at_once(kind, s))
 }
 
 // A step for each byte and an answer after it: the greatest count.
@@ -98,10 +70,7 @@ pub extern "C" fn tirozhbar_at_once(letter: u8, s: &[u8]) -> usize
 pub extern "C" fn tirozhbar_byte_by_byte(letter: u8, s: &[u8]) -> usize
     ensures { result ≡ lettered greatest_count letter s.now }
 {
-    match kinds::kind_of(letter, Choices::DOCUMENT_01) {
-        Letter::Names(kind) => byte_by_byte(kind, s),
-        Letter::Unknown => 0,
-    }
+    kinds::kind_of(letter, Choices::DOCUMENT_01).map_or(0, |kind| byte_by_byte(kind, s))
 }
 
 // A reading of each beginning: the greatest count.
@@ -109,8 +78,5 @@ pub extern "C" fn tirozhbar_byte_by_byte(letter: u8, s: &[u8]) -> usize
 pub extern "C" fn tirozhbar_afresh(letter: u8, s: &[u8]) -> usize
     ensures { result ≡ lettered greatest_count letter s.now }
 {
-    match kinds::kind_of(letter, Choices::DOCUMENT_01) {
-        Letter::Names(kind) => afresh(kind, s),
-        Letter::Unknown => 0,
-    }
+    kinds::kind_of(letter, Choices::DOCUMENT_01).map_or(0, |kind| afresh(kind, s))
 }

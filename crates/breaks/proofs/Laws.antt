@@ -1,5 +1,5 @@
 -- A text can be completed exactly where it is open or accepted, and so can all that it begins with.
-use Prim.Native.Nat.{ℕ, ◌+◌, ◌-◌, ◌/◌, ◌≤◌, ◌<◌}
+use Prim.Native.Nat.{ℕ, ◌≤◌, ◌<◌}
 use mathlib.Core.List.{List, [], ◌∷◌, ◌++◌, append_assoc, append-nil}
 use mathlib.Core.Bool.{true, false}
 use mathlib.Core.Path.{◌≡◌, sym, ap, ◌∙◌}
@@ -7,22 +7,20 @@ use native.Mathlib.Omega.{arith}
 use lib.ListN.{length, take, drop, length-append, take-append-drop}
 use lib.Seq.{take-length, take-take}
 use borrow.Author.Tests.{eqb-true, eq-eqb, le-ltb}
+use Rattle.std.specs.declared.result.Result.TheVariants as result
 use Rattle.types.specs.declared.Verdict.TheVariants.{Settled, Open}
 use Rattle.parser.specs.Reading.{got}
 use Rattle.parser.specs.Answer.{recorded, begun, Judged}
+use Rattle.parser.specs.Told.{told}
+use Rattle.parser.specs.declared.answer.Read.{Read}
 use Rattle.parser.proofs.Fields.{true≢false}
 use Rattle.parser.proofs.Verdict.{recorded_or_refused, recorded_once, begun_got, ended_got, ended_all}
 use Rattle.kinds.specs.declared.answer.Kind.{Kind}
 use Rattle.kinds.specs.declared.answer.Kind.TheVariants as kind
 use Rattle.kinds.specs.declared.answer.Record.{Record}
-use Rattle.kinds.specs.declared.answer.Answer.{Answer}
-use Rattle.kinds.specs.declared.answer.Answer.TheVariants as answer
-use Rattle.kinds.specs.declared.answer.Read.{Read}
-use Rattle.kinds.specs.Kinds.{rule_of, bound, told, Reads}
+use Rattle.kinds.specs.Kinds.{Answer, rule_of, bound, Reads}
 use Rattle.kinds.proofs.Laws.{MayStopOf, bounded, empty_open, open_completed}
-use Rattle.breaks.specs.declared.Reason.{Reason}
-use Rattle.breaks.specs.declared.Reason.TheVariants.{Ok, Early, Bad}
-use Rattle.breaks.specs.Breaks.{under2019, Accepts, Completable, BreaksAt, Tells, handed}
+use Rattle.breaks.specs.Breaks.{under2019, Accepts, Completable}
 use Rattle.breaks.specs.Standing.{wholly}
 
 -- under 2019 no completion may stop the reading
@@ -81,20 +79,20 @@ module _ (k : Kind) where
 
 -- ---- what a reading tells
 
-module _ (k : Kind) (s : List ℕ) (r : Read) (reads : Reads (under2019 k) s r) where
+module _ (k : Kind) (s : List ℕ) (r : Read Record) (reads : Reads (under2019 k) s r) where
   pub whole_accepted : wholly r.answer (length s) ≡ true → Accepts k s
   whole_accepted h = go r.answer reads.answer h
     where
       go : (a : Answer) → told a ≡ begun ((rule_of (under2019 k)).reads s 0) → wholly a (length s) ≡ true → Accepts k s
-      go (answer.Record v n) e h = got_accepts k s v (begun_got _ v (length s) (sym e ∙ ap (recorded v) (eqb-true n (length s) h)))
-      go (answer.Refused why n) e h = absurd (true≢false (sym h))
+      go (result.Ok q) e h = got_accepts k s q.value (begun_got _ q.value (length s) (sym e ∙ ap (recorded q.value) (eqb-true q.count (length s) h)))
+      go (result.Err d) e h = absurd (true≢false (sym h))
 
   accepted_whole : Accepts k s → wholly r.answer (length s) ≡ true
   accepted_whole a = go r.answer (reads.answer ∙ ap begun (accepts_got k s a))
     where
       go : (x : Answer) → told x ≡ recorded a.value (length s) → wholly x (length s) ≡ true
-      go (answer.Record v n) e = eq-eqb n (length s) (recorded_once e).1
-      go (answer.Refused why n) e = absurd (recorded_or_refused (sym e))
+      go (result.Ok q) e = eq-eqb q.count (length s) (recorded_once e).1
+      go (result.Err d) e = absurd (recorded_or_refused (sym e))
 
   not_accepted : wholly r.answer (length s) ≡ false → Accepts k s → ⊥
   not_accepted h a = true≢false (sym (accepted_whole a) ∙ h)
@@ -119,23 +117,3 @@ breaks_between k s broken = record { some = nonzero s broken; within = omega ari
     nonzero : (s : List ℕ) → (Completable k s → ⊥) → 0 < length s
     nonzero [] broken = absurd (broken (empty_completable k))
     nonzero (b ∷ s) broken = omega arith
-
--- halved, by how the text stands up to the middle
-module _ {k : Kind} {s : List ℕ} {low high : ℕ} (b : Between k s low high) (more : 1 < high - low) where
-  pub raised : Completable k (take (low + (high - low) / 2) s) → Between k s (low + (high - low) / 2) high
-  raised c = record { some = omega arith; within = b.within; before = c; behind = b.behind }
-
-  pub lowered : (Completable k (take (low + (high - low) / 2) s) → ⊥) → Between k s low (low + (high - low) / 2)
-  lowered broken = record { some = omega arith; within = omega (arith, b.within); before = b.before; behind = broken }
-
-pub breaks_at : (k : Kind) (s : List ℕ) (low high : ℕ) → Between k s low high → high ≤ low + 1 → BreaksAt k s low
-breaks_at k s low high b h =
-    let next : high ≡ low + 1 = omega (arith, b.some) in
-    record { within = omega (arith, b.some, b.within); before = b.before; behind = rw next at b.behind }
-
--- ---- what is handed back
-
-pub handed_within : (k : Kind) (s : List ℕ) (r : Reason) → Tells k s r → (all : ℕ) → all ≤ length s → handed all r ≤ length s
-handed_within k s Ok t all h = h
-handed_within k s Early t all h = h
-handed_within k s (Bad n) t all h = omega (arith, t.1.within)

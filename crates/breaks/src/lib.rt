@@ -37,8 +37,7 @@ impl Reason {
         ensures { result ≡ handed all self }
     {
         match self {
-            Reason::Ok => all,
-            Reason::Early => all,
+            Reason::Ok | Reason::Early => all,
             Reason::Bad { at } => at,
         }
     }
@@ -56,12 +55,10 @@ fn by_2019(kind: Kind) -> Kind
     ensures { result ≡ under2019 kind }
 {
     match kind {
-        Kind::Date => Kind::Date,
         Kind::Time(_) => Kind::Time(Choices::DOCUMENT_01),
-        Kind::Offset => Kind::Offset,
         Kind::Stamp(_) => Kind::Stamp(Choices::DOCUMENT_01),
-        Kind::Duration => Kind::Duration,
         Kind::Interval(_) => Kind::Interval(Choices::DOCUMENT_01),
+        Kind::Date | Kind::Offset | Kind::Duration => kind,
     }
 }
 
@@ -69,22 +66,18 @@ fn by_2019(kind: Kind) -> Kind
 fn is_whole(answer: Answer, all: usize) -> bool
     ensures { result ≡ wholly answer all }
 {
-    match answer {
-        Answer::Record { value: _, count } => count == all,
-        Answer::Refused { why: _, count: _ } => false,
-    }
+    answer.is_ok_and(|found| found.count == all)
 }
 
+#[tactic(auto, using(crate::proofs::Laws::whole_accepted, crate::proofs::Laws::settled_broken))]
 fn standing_of(kind: Kind, s: &[u8]) -> Standing
     ensures { Stands kind s.now result }
 {
     let read = kinds::read(by_2019(kind), s);
-    let answer = read.answer;
-    if is_whole(answer, s.len()) {
+    if is_whole(read.answer, s.len()) {
         return Standing::Accepted;
     }
-    let verdict = read.verdict;
-    match verdict {
+    match read.verdict {
         Verdict::Open => Standing::Unfinished,
         Verdict::Settled => Standing::Broken,
     }
@@ -99,10 +92,8 @@ fn first_bad(kind: Kind, s: &[u8]) -> usize
     let mut high = s.len();
     while 1 < high - low {
         let middle = low + (high - low) / 2;
-        let found = standing_of(kind, &s[..middle]);
-        match found {
-            Standing::Accepted => low = middle,
-            Standing::Unfinished => low = middle,
+        match standing_of(kind, &s[..middle]) {
+            Standing::Accepted | Standing::Unfinished => low = middle,
             Standing::Broken => high = middle,
         }
     }
@@ -113,8 +104,7 @@ fn first_bad(kind: Kind, s: &[u8]) -> usize
 pub fn why(kind: Kind, s: &[u8]) -> Reason
     ensures { Tells kind s.now result }
 {
-    let found = standing_of(kind, s);
-    match found {
+    match standing_of(kind, s) {
         Standing::Accepted => Reason::Ok,
         Standing::Unfinished => Reason::Early,
         Standing::Broken => Reason::Bad {

@@ -1,7 +1,9 @@
 -- The day of each form of date, from what is told of its year.
-use Prim.Native.Nat.{ℕ, zero, suc, ◌+◌, ◌*◌, ◌-◌, ◌%◌, ◌≤◌, ◌<◌}
+use Prim.Native.Nat.{ℕ, ◌+◌, ◌*◌, ◌-◌, ◌%◌, ◌≤◌, ◌<◌}
 use mathlib.Core.Bool.{Bool, true, false}
 use mathlib.Core.Option.{some, none}
+use Rattle.std.specs.declared.option.Option.{Option}
+use Rattle.std.specs.declared.option.Option.TheVariants.{None, Some}
 use mathlib.Core.Path.{◌≡◌, refl, sym, ap, ap₂, ◌∙◌}
 use native.Mathlib.Omega.{arith}
 use lib.Dec.{leb}
@@ -9,16 +11,14 @@ use lib.IntN.{ℤ, pos, ◌+ℤ◌, ◌-ℤ◌}
 use lib.ListN.{get_or, take}
 use borrow.Author.Tests.{leb-true, le-leb, lt-leb}
 use Rattle.types.specs.declared.Date.{Date}
-use Rattle.types.specs.declared.Date.TheVariants.{YMD, Week, Ordinal}
+use Rattle.types.specs.declared.Date.TheVariants.{YMD, Week}
 use Rattle.parser.specs.Reading.{and, pick, within}
 use Rattle.parser.proofs.Fields.{and_first, and_second}
-use Rattle.calendar.specs.declared.Day.{Day}
-use Rattle.calendar.specs.declared.Day.TheVariants.{Number, Lacking}
 use Rattle.calendar.specs.declared.Year.{Year}
-use Rattle.calendar.specs.Calendar.{leap, months, month_days, days_before, sum, new_year, weekday}
+use Rattle.calendar.specs.Calendar.{months, month_days, days_before, sum, new_year, weekday}
 use Rattle.calendar.specs.Far.{far_day, Begins, day_told, DayOf}
 use Rattle.calendar.proofs.Integers.{◌⊖◌, same, same_up, add_pos, less_pos}
-use Rattle.calendar.proofs.Months.{one_more, no_month, sum_below}
+use Rattle.calendar.proofs.Months.{one_more, sum_below}
 use Rattle.calendar.proofs.Years.{year_days_lem}
 use Rattle.calendar.proofs.Weeks.{weekday_shifted}
 
@@ -31,9 +31,6 @@ inside lo hi v a b = rw (le-leb lo v a, le-leb v hi b)
 
 pub within_ends : (lo hi v : ℕ) → within lo hi v ≡ true → (lo ≤ v) × (v ≤ hi)
 within_ends lo hi v e = (leb-true lo v (and_first (leb lo v) (leb v hi) e), leb-true v hi (and_second (leb lo v) e))
-
-pub below : (lo hi v : ℕ) → v < lo → within lo hi v ≡ false
-below lo hi v h = rw (lt-leb lo v h)
 
 pub above : (lo hi v : ℕ) → hi < v → within lo hi v ≡ false
 above lo hi v h = rw (lt-leb v hi h) (go (leb lo v))
@@ -48,50 +45,25 @@ day_or_none false = omega arith
 
 -- ---- calendar dates
 
-pub no_day_lem : (y : ℤ) (m d : ℕ) → within 1 (month_days y m) d ≡ false → DayOf (YMD y m d) Lacking
+pub no_day_lem : (y : ℤ) (m d : ℕ) → within 1 (month_days y m) d ≡ false → DayOf (YMD y m d) None
 no_day_lem y m d e = record { is = rw e; near = tt }
-
-pub beyond : (y : ℤ) (m d : ℕ) → 12 < m → DayOf (YMD y m d) Lacking
-beyond y m d h = no_day_lem y m d (rw (no_month (leap y) m h) (none d))
-  where
-    none : (v : ℕ) → within 1 0 v ≡ false
-    none zero = refl
-    none (suc v) = above 1 0 (suc v) (omega arith)
 
 module _ {y : ℤ} {r : Year} (b : Begins y r) where
   -- from the days before the month and those before the next one
   module _ (m d from to : ℕ) (first : from ≡ sum (take m (months r.leap))) (last : to ≡ sum (take (m + 1) (months r.leap))) where
-    pub in_order : from ≤ to
-    in_order = omega (arith, one_more (months r.leap) m)
-
     length_of : month_days y m ≡ to - from
     length_of = ap (λ (l : Bool). get_or (months l) m 0) b.leaps ∙ omega (arith, one_more (months r.leap) m)
 
-    pub late : to - from < d → DayOf (YMD y m d) Lacking
+    pub late : to - from < d → DayOf (YMD y m d) None
     late h = no_day_lem y m d (rw length_of (above 1 (to - from) d h))
 
-    pub calendar : 1 ≤ d → d ≤ to - from → DayOf (YMD y m d) (Number (r.first + (from + (d - 1))))
+    pub calendar : 1 ≤ d → d ≤ to - from → DayOf (YMD y m d) (Some (r.first + (from + (d - 1))))
     calendar h k = record {
       is = sym (ap (λ (n : ℕ). pick (within 1 n d) (some (new_year y +ℤ pos (days_before y m + (d - 1)))) none) length_of
           ∙ ap (λ (t : Bool). pick t (some (new_year y +ℤ pos (days_before y m + (d - 1)))) none) (inside 1 (to - from) d h k)
           ∙ ap (λ (n : ℕ). some (new_year y +ℤ pos (n + (d - 1)))) (ap (λ (l : Bool). sum (take m (months l))) b.leaps ∙ sym first)
           ∙ ap some (later r.first (from + (d - 1)) b.first));
       near = omega (arith, b.below, sum_below (months r.leap) (m + 1), year_days_lem r.leap, day_or_none r.leap);
-    }
-
-  -- ---- ordinal dates
-
-  module _ (d all : ℕ) (is : all ≡ sum (take 13 (months r.leap))) where
-    whole : sum (months (leap y)) ≡ all
-    whole = rw b.leaps (sym is)
-
-    pub past : all < d → DayOf (Ordinal y d) Lacking
-    past h = record { is = rw (whole, above 1 all d h); near = tt }
-
-    pub ordinal : 1 ≤ d → d ≤ all → DayOf (Ordinal y d) (Number (r.first + (d - 1)))
-    ordinal h k = record {
-      is = rw (whole, inside 1 all d h k) (ap some (sym (later r.first (d - 1) b.first)));
-      near = omega (arith, b.below, sum_below (months r.leap) 13, year_days_lem r.leap, day_or_none r.leap);
     }
 
   -- ---- week dates
@@ -105,7 +77,7 @@ module _ {y : ℤ} {r : Year} (b : Begins y r) where
         ap (λ (z : ℤ). z +ℤ pos (w * 7 + d) -ℤ pos 8) (less_pos n far_day back) ∙ ap (λ (z : ℤ). z -ℤ pos 8) (add_pos n (far_day + back) (w * 7 + d))
         ∙ less_pos (n + (w * 7 + d)) (far_day + back) 8 ∙ same (n + (w * 7 + d)) (far_day + back + 8) (n - back + w * 7 + d - 8) far_day (omega arith)
 
-    pub week : DayOf (Week y w d) (Number (r.first + 3 - (r.first + 3 + 5) % 7 + w * 7 + d - 8))
+    pub week : DayOf (Week y w d) (Some (r.first + 3 - (r.first + 3 + 5) % 7 + w * 7 + d - 8))
     week =
         let n = r.first + 3 in
         let back = (n + 5) % 7 in
@@ -114,16 +86,13 @@ module _ {y : ℤ} {r : Year} (b : Begins y r) where
           near = omega (arith, b.below);
         }
 
-pub none_counted : (y : ℤ) (d : ℕ) → d ≡ 0 → DayOf (Ordinal y d) Lacking
-none_counted y d e = record { is = rw e; near = tt }
-
 -- ---- no two days are told of one date
 
-pub day_once : (d : Date) (q r : Day) → DayOf d q → DayOf d r → q ≡ r
+pub day_once : (d : Date) (q r : Option ℕ) → DayOf d q → DayOf d r → q ≡ r
 day_once d q r h k = go q r (h.is ∙ sym k.is)
   where
-    go : (q r : Day) → day_told q ≡ day_told r → q ≡ r
-    go (Number m) (Number n) e = let same-day : m ⊖ far_day ≡ n ⊖ far_day = cc in ap Number (same_up m n far_day same-day)
-    go (Number m) Lacking e = let z : ◌≡◌ {A = ℕ} 0 1 = cc in absurd (omega arith)
-    go Lacking (Number n) e = let z : ◌≡◌ {A = ℕ} 0 1 = cc in absurd (omega arith)
-    go Lacking Lacking e = refl
+    go : (q r : Option ℕ) → day_told q ≡ day_told r → q ≡ r
+    go (Some m) (Some n) e = let same-day : m ⊖ far_day ≡ n ⊖ far_day = cc in ap Some (same_up m n far_day same-day)
+    go (Some m) None e = let z : ◌≡◌ {A = ℕ} 0 1 = cc in absurd (omega arith)
+    go None (Some n) e = let z : ◌≡◌ {A = ℕ} 0 1 = cc in absurd (omega arith)
+    go None None e = refl

@@ -6,9 +6,8 @@ use mathlib.Core.Path.{◌≡◌, refl, sym, ap, ◌∙◌}
 use native.Mathlib.Omega.{arith}
 use native.Mathlib.Nat.{zero-add}
 use native.Mathlib.Numerals.{add-one}
-use lib.ListN.{get_or, take, length, get_or-eq_default}
+use lib.ListN.{get_or, take, length}
 use Rattle.calendar.specs.Calendar.{months, sum}
-use Rattle.calendar.proofs.Years.{year_days_lem}
 
 abbrev pub table : List ℕ
 table = 0 ∷ 0 ∷ 31 ∷ 59 ∷ 90 ∷ 120 ∷ 151 ∷ 181 ∷ 212 ∷ 243 ∷ 273 ∷ 304 ∷ 334 ∷ 365 ∷ []
@@ -41,9 +40,6 @@ sum_below [] (suc i) = omega arith
 sum_below (m ∷ l) zero = omega arith
 sum_below (m ∷ l) (suc i) = omega (arith, sum_below l i)
 
-pub table_below : (m : ℕ) → m ≤ 13 → get_or table m 0 ≤ 365
-table_below m h = omega (arith, table_at m h, sum_below (months false) m, year_days_lem false)
-
 -- a leap year has a day more behind February
 pub later_in_leap : (m : ℕ) → 3 ≤ m → sum (take m (months true)) ≡ sum (take m (months false)) + 1
 unfolding sum
@@ -70,7 +66,3 @@ one_on (n ∷ l) (suc m) = omega (arith, one_on l m)
 
 pub one_more : (l : List ℕ) (m : ℕ) → sum (take m l) + get_or l m 0 ≡ sum (take (m + 1) l)
 one_more l m = one_on l m ∙ ap (λ (k : ℕ). sum (take k l)) (sym (add-one m))
-
--- there is no thirteenth month, nor any behind it
-pub no_month : (l : Bool) (m : ℕ) → 12 < m → get_or (months l) m 0 ≡ 0
-no_month l m h = get_or-eq_default (months l) 0 h

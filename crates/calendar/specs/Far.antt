@@ -2,10 +2,10 @@
 -- before year 0. Nothing here has to be believed: what is promised is that it is the calendar.
 use Rattle.std.specs.Prelude.{ℕ, zero, suc, ◌+◌, ◌%◌, ◌<◌, ◌≤◌, Bool, not, ◌≡◌, eqb, ℤ, pos, ◌-ℤ◌}
 use Rattle.std.proofs.Math.Option.{Option, some, none}
+use Rattle.std.specs.declared.option.Option as std
+use Rattle.std.specs.declared.option.Option.TheVariants.{None, Some}
 use Rattle.types.specs.declared.Date.{Date}
 use Rattle.parser.specs.Reading.{and, or}
-use Rattle.calendar.specs.declared.Day.{Day}
-use Rattle.calendar.specs.declared.Day.TheVariants.{Number, Lacking}
 use Rattle.calendar.specs.declared.Year.{Year}
 use Rattle.calendar.specs.Calendar.{leap, months, sum, new_year, day_of}
 
@@ -29,15 +29,15 @@ pub record Begins (y : ℤ) (r : Year) : Type 0 where
   pub below : r.first < 1600000000000
 
 -- the day that is told, counted from 1 January of year 0
-abbrev pub day_told : Day → Option ℤ
-day_told (Number n) = some (pos n -ℤ pos far_day)
-day_told Lacking = none
+abbrev pub day_told : std.Option ℕ → Option ℤ
+day_told (Some n) = some (pos n -ℤ pos far_day)
+day_told None = none
 
-abbrev pub Near : Day → Type 0
-Near (Number n) = n < 1700000000000
-Near Lacking = Unit
+abbrev pub Near : std.Option ℕ → Type 0
+Near (Some n) = n < 1700000000000
+Near None = Unit
 
 -- all that is promised of the day of a date: it is the calendar's, and no number is too large to count seconds in
-pub record DayOf (d : Date) (r : Day) : Type 0 where
+pub record DayOf (d : Date) (r : std.Option ℕ) : Type 0 where
   pub is : day_told r ≡ day_of d
   pub near : Near r

@@ -9,13 +9,6 @@ ghost use Rattle.calendar.specs.Far.{leap_from, before, Begins, DayOf};
 
 use types::Date;
 
-// The day of a date, counted from the first; or a day that its month or year lacks.
-#[derive(Clone, Copy)]
-pub enum Day {
-    Number(u64),
-    Lacking,
-}
-
 // The first day of a year, and whether it is a leap year.
 #[derive(Clone, Copy)]
 struct Year {
@@ -39,16 +32,11 @@ fn from_the_first(year: i32) -> u64
 fn is_leap(year: u64) -> bool
     ensures { result ≡ leap_from year }
 {
-    if year % 4 != 0 {
-        return false;
-    }
-    if year % 100 != 0 {
-        return true;
-    }
-    year % 400 == 0
+    year % 4 == 0 && (year % 100 != 0 || year % 400 == 0)
 }
 
 // The days of so many years: 365 each, and one for each fourth, but not for a hundredth unless it is a four hundredth.
+#[tactic(auto, using(crate::proofs::Years::by_quotients))]
 fn days_of_years(years: u64) -> u64
     requires { years < 4294967648 }
     ensures { result ≡ before years }
@@ -67,63 +55,55 @@ fn year_of(year: i32) -> Year
 }
 
 // The days of a year that lie before a month; of all of it before month 13.
+#[tactic(auto, using(crate::proofs::Months::table_at, crate::proofs::Months::later_in_leap, crate::proofs::Months::before_in_leap))]
 fn before_month(leap: bool, month: u32) -> u32
     requires { month ≤ 13 }
     ensures { result ≡ sum (take month (months leap)) }
 {
     let days = BEFORE[month as usize];
-    if month < 3 {
-        return days;
-    }
-    if leap {
-        return days + 1;
-    }
-    days
+    if leap && 3 <= month { days + 1 } else { days }
 }
 
-fn calendar_day(year: i32, month: u32, day: u32) -> Day
+// The day of a month of a year, where the month has it.
+#[tactic(auto, using(crate::proofs::Months::one_more))]
+fn calendar_day(year: i32, month: u32, day: u32) -> Option<u64>
     ensures { DayOf (YMD year month day) result }
 {
-    if 12 < month {
-        return Day::Lacking;
-    }
-    if day == 0 {
-        return Day::Lacking;
+    if 12 < month || day == 0 {
+        return None;
     }
     let y = year_of(year);
     let from = before_month(y.leap, month);
     let to = before_month(y.leap, month + 1);
     if to - from < day {
-        return Day::Lacking;
+        return None;
     }
-    Day::Number(y.first + (from + (day - 1)) as u64)
+    Some(y.first + (from + (day - 1)) as u64)
 }
 
-fn ordinal_day(year: i32, day: u32) -> Day
+// The day of a year, where the year has it.
+fn ordinal_day(year: i32, day: u32) -> Option<u64>
     ensures { DayOf (Ordinal year day) result }
 {
-    if day == 0 {
-        return Day::Lacking;
-    }
     let y = year_of(year);
-    if before_month(y.leap, 13) < day {
-        return Day::Lacking;
+    if day == 0 || before_month(y.leap, 13) < day {
+        return None;
     }
-    Day::Number(y.first + (day - 1) as u64)
+    Some(y.first + (day - 1) as u64)
 }
 
 // The first day of all is a Saturday, five days after a Monday.
-fn week_day(year: i32, week: u32, day: u32) -> Day
+fn week_day(year: i32, week: u32, day: u32) -> Option<u64>
     ensures { DayOf (Week year week day) result }
 {
     let y = year_of(year);
     let fourth = y.first + 3;
     let monday = fourth - (fourth + 5) % 7;
-    Day::Number(monday + (week as u64) * 7 + day as u64 - 8)
+    Some(monday + (week as u64) * 7 + day as u64 - 8)
 }
 
-// The day of a date of any form.
-pub fn day_of(date: Date) -> Day
+// The day of a date of any form, counted from the first; none where its month or year lacks it.
+pub fn day_of(date: Date) -> Option<u64>
     ensures { DayOf date result }
 {
     match date {

@@ -5,7 +5,7 @@ use Rattle.types.specs.Editions.{document01}
 use Rattle.types.specs.declared.Verdict.{Verdict}
 use Rattle.types.specs.declared.Verdict.TheVariants.{Settled, Open}
 use Rattle.types.specs.declared.Date.TheVariants.{YMD, Week, Ordinal}
-use Rattle.types.specs.declared.TimeOffset.TheVariants.{Absent}
+use Rattle.std.specs.declared.option.Option.TheVariants.{None}
 use Rattle.types.specs.declared.Time.{Time}
 use Rattle.types.specs.declared.Duration.{Duration}
 use Rattle.parser.specs.Answer.{Told, recorded, refused}
@@ -30,7 +30,7 @@ abbrev pub seconds : ℕ → Duration
 seconds n = record { years = 0; months = 0; weeks = 0; days = 0; hours = 0; minutes = 0; seconds = n }
 
 abbrev pub clock : ℕ → ℕ → ℕ → ℕ → ℕ → Time
-clock h m s n d = record { hour = h; minute = m; second = s; nanosecond = n; digits = d; offset = Absent }
+clock h m s n d = record { hour = h; minute = m; second = s; nanosecond = n; digits = d; offset = None }
 
 unfoldable pub table : List Row
 table =

@@ -1,35 +1,38 @@
 -- A line more raises its count and no other, and adds its seconds.
-use Prim.Native.Nat.{ℕ, zero, suc, ◌+◌, ◌≤◌, ◌<◌}
+use Prim.Native.Nat.{ℕ, zero, suc, ◌+◌, ◌-◌, ◌≤◌, ◌<◌}
 use mathlib.Core.Bool.{Bool, true, false}
 use mathlib.Core.List.{List, [], ◌∷◌, ◌++◌}
 use mathlib.Core.Option.{Option, some, none}
 use mathlib.Core.Path.{◌≡◌, refl, sym, ap, ap₂, ◌∙◌}
 use native.Mathlib.Omega.{arith}
 use lib.Dec.{leb, eqb, ltb}
-use lib.ListN.{length, get_or, set, take}
+use lib.ListN.{length, get_or, set, take, drop, length-drop}
+use lib.Seq.{take_all}
 use borrow.Author.Tests.{ltb-true, ltb-false, leb-true, leb-false, lt-ltb, eq-eqb, ne_eqb}
 use Rattle.types.specs.Sums.{largest, sum_or_over}
-use Rattle.types.specs.declared.InSeconds.TheVariants.{Over}
-use Rattle.parser.specs.Reading.{Found, no, got, stop, pick}
-use Rattle.parser.specs.Answer.{begun, ended}
+use Rattle.std.specs.declared.option.Option.TheVariants.{None, Some}
+use Rattle.parser.specs.Reading.{pick}
 use Rattle.parser.proofs.Fields.{and_right}
-use Rattle.kinds.specs.declared.answer.Record.{Record}
+use Rattle.kinds.specs.declared.answer.Kind.{Kind}
 use Rattle.kinds.specs.Kinds.{among_five}
-use Rattle.reply.specs.Line.{plain_head}
+use Rattle.reply.specs.Line.{plain_head, plain_question}
 use Rattle.reply.proofs.Asked.{said_clip}
 use Rattle.counts.specs.Counts.{Line, line_in, line_of, how_many, is_at, is_bad, list_of, row_in, table_of, bad_of, adds, seconds_in_all, Passes}
-use Rattle.counts.specs.Seen.{wholly, seen, more, raised_in, raised, counted, bad_counted}
+use Rattle.counts.specs.Seen.{seen, more, raised_in, raised, counted, bad_counted}
 
 -- what the first 205 bytes of a line are, or more of them, the line is
 pub line_clip : (limit : ℕ) (l : List ℕ) → 205 ≤ limit → line_of (take limit l) ≡ line_of l
 unfolding line_of
 line_clip limit l h = sym (said_clip (λ m. plain_head) (λ m. omega arith) (λ q s. line_in (among_five q) s ≡ line_of (take limit l)) (λ s u e. e) limit l h refl)
 
--- what the beginning reader finds tells the whole reader's answer
-pub ended_wholly : (all : ℕ) (f : Found Record) → ended all f ≡ wholly all (begun f)
-ended_wholly all no = refl
-ended_wholly all (got v n) = refl
-ended_wholly all (stop r) = refl
+-- what a line that names a kind counts as, by its text; and a line that names none
+pub seen_some : (l : List ℕ) (k : Kind) → plain_question l ≡ Some k → seen (line_of l) ≡ seen (line_in (Some k) (take (length l - 2) (drop 2 l)))
+unfolding line_of
+seen_some l k e = rw (e, take_all (length l - 2) (drop 2 l) (simp length-drop (omega arith)))
+
+pub seen_none : (l : List ℕ) → plain_question l ≡ None → seen (line_of l) ≡ None
+unfolding line_of
+seen_none l e = rw e
 
 -- ---- lists by their places
 
@@ -152,7 +155,7 @@ seconds_then ls l = omega (arith, seconds_both ls (l ∷ []))
 passes_more : (m n : ℕ) → m ≤ n → Passes m → Passes n
 passes_more m n h e = go (leb m largest) (leb n largest) refl refl e
   where
-    go : (t u : Bool) → leb m largest ≡ t → leb n largest ≡ u → sum_or_over t m ≡ Over → sum_or_over u n ≡ Over
+    go : (t u : Bool) → leb m largest ≡ t → leb n largest ≡ u → sum_or_over t m ≡ None → sum_or_over u n ≡ None
     go t false et eu e = refl
     go true true et eu e = absurd (let z : ◌≡◌ {A = ℕ} 0 1 = cc in omega arith)
     go false true et eu e = absurd (omega (arith, leb-false m largest et, leb-true n largest eu))

@@ -8,8 +8,8 @@ use native.Mathlib.Omega.{arith}
 use Rattle.parser.specs.Reading.{pick}
 use Rattle.kinds.specs.declared.answer.Kind.{Kind}
 use Rattle.kinds.specs.declared.answer.Kind.TheVariants as kind
-use Rattle.kinds.specs.declared.answer.Letter.{Letter}
-use Rattle.kinds.specs.declared.answer.Letter.TheVariants.{Names, Unknown}
+use Rattle.std.specs.declared.option.Option as std_option
+use Rattle.std.specs.declared.option.Option.TheVariants.{None, Some}
 use Rattle.kinds.specs.Far.{OfFive}
 use Rattle.kinds.proofs.Laws.{four_answers}
 use Rattle.kinds.proofs.Letters.{FiveOr, among_five_lem}
@@ -34,10 +34,10 @@ row_small (kind.Stamp c) five = omega arith
 row_small kind.Duration five = omega arith
 row_small (kind.Interval c) five = absurd five
 
-placed_in : (q : Letter) (s : List ℕ) → FiveOr q → PlacedOr (line_in q s)
+placed_in : (q : std_option.Option Kind) (s : List ℕ) → FiveOr q → PlacedOr (line_in q s)
 unfolding PlacedOr
-placed_in (Names k) s five = record { row = row_small k five; answer = four_answers k s }
-placed_in Unknown s five = tt
+placed_in (Some k) s five = record { row = row_small k five; answer = four_answers k s }
+placed_in None s five = tt
 
 placed : (l : List ℕ) → PlacedOr (line_of l)
 unfolding line_of

@@ -2,13 +2,13 @@
 use Rattle.std.specs.Prelude.{ℕ, zero, suc, ◌+◌, Bool, true, false, List, [], ◌∷◌, ◌≡◌, eqb, length}
 use Rattle.std.proofs.Math.Option.{Option, some, none}
 use Rattle.types.specs.Sums.{seconds_of, or_over}
-use Rattle.types.specs.declared.InSeconds.TheVariants.{Over}
+use Rattle.std.specs.declared.option.Option.TheVariants.{None}
 use Rattle.parser.specs.Reading.{and, pick}
 use Rattle.parser.specs.Answer.{Told, ended}
 use Rattle.kinds.specs.declared.answer.Kind.{Kind}
 use Rattle.kinds.specs.declared.answer.Kind.TheVariants as kind
-use Rattle.kinds.specs.declared.answer.Letter.{Letter}
-use Rattle.kinds.specs.declared.answer.Letter.TheVariants.{Names, Unknown}
+use Rattle.std.specs.declared.option.Option as std_option
+use Rattle.std.specs.declared.option.Option.TheVariants.{None, Some}
 use Rattle.kinds.specs.declared.answer.Record.{Record}
 use Rattle.kinds.specs.declared.answer.Record.TheVariants as record_of
 use Rattle.kinds.specs.Kinds.{rule_of}
@@ -32,9 +32,9 @@ abbrev pub told_at : ℕ → Told Record → Option Line
 told_at row t = some (record { row = row; told = t })
 
 -- "reads lines as W6's does, under the same rules; one that is `unknown` there is bad": none
-abbrev pub line_in : Letter → List ℕ → Option Line
-line_in (Names k) s = told_at (row_of k) (ended (length s) ((rule_of k).reads s 0))
-line_in Unknown s = none
+abbrev pub line_in : std_option.Option Kind → List ℕ → Option Line
+line_in (Some k) s = told_at (row_of k) (ended (length s) ((rule_of k).reads s 0))
+line_in None s = none
 
 unfoldable pub line_of : List ℕ → Option Line
 line_of l = line_in (plain_question l) (plain_text l)
@@ -96,7 +96,7 @@ seconds_in_all (l ∷ ls) = adds (line_of l) + seconds_in_all ls
 
 -- "If a duration's sum or the running sum ever passes 18,446,744,073,709,551,615": some lines together, or one of them
 abbrev pub Passes : ℕ → Type 0
-Passes n = or_over n ≡ Over
+Passes n = or_over n ≡ None
 
 -- ---- the twenty counts together
 

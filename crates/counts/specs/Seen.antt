@@ -2,27 +2,16 @@
 use Rattle.std.specs.Prelude.{ℕ, ◌+◌, List, [], ltb, get_or, set}
 use Rattle.std.proofs.Math.Option.{Option, some, none}
 use Rattle.types.specs.Sums.{largest, or_over}
-use Rattle.types.specs.declared.InSeconds.{InSeconds}
-use Rattle.types.specs.declared.InSeconds.TheVariants.{Sum}
+use Rattle.std.specs.declared.option.Option as std_option
+use Rattle.std.specs.declared.option.Option.TheVariants.{None, Some}
 use Rattle.parser.specs.Reading.{pick}
-use Rattle.parser.specs.Answer.{Told, refused}
-use Rattle.kinds.specs.declared.answer.Record.{Record}
-use Rattle.counts.specs.declared.Seen.{Seen}
-use Rattle.counts.specs.declared.Seen.TheVariants.{Counted, Bad}
+use Rattle.counts.specs.declared.Counted.{Counted}
 use Rattle.counts.specs.Counts.{Line, adds}
 
--- the whole reader's answer, by the beginning reader's and the number of all bytes
-abbrev pub wholly_of : ℕ → Option Record → Told Record → Told Record
-wholly_of all (some v) t = pick (ltb t.count all) (refused 3 t.count) t
-wholly_of all none t = t
-
-abbrev pub wholly : ℕ → Told Record → Told Record
-wholly all t = wholly_of all t.value t
-
--- a line's row, its answer, and the seconds that it adds: exact, or over
-abbrev pub seen : Option Line → Seen
-seen (some x) = Counted x.row x.told.number (or_over (adds (some x)))
-seen none = Bad
+-- a line's row, its answer, and the seconds that it adds: exact, or none where they are more than 64 bits hold
+abbrev pub seen : Option Line → std_option.Option Counted
+seen (some x) = Some (record { row = x.row; answer = x.told.number; seconds = or_over (adds (some x)) })
+seen none = None
 
 -- one more, as far as 64 bits hold it
 abbrev pub more : ℕ → ℕ
@@ -35,14 +24,14 @@ raised_in j r = set r j (more (get_or r j 0))
 unfoldable pub raised : ℕ → ℕ → List (List ℕ) → List (List ℕ)
 raised i j t = pick (ltb i 5) (pick (ltb j 4) (set t i (raised_in j (get_or t i []))) t) t
 
-abbrev pub counted : Seen → List (List ℕ) → List (List ℕ)
-counted (Counted i j s) t = raised i j t
-counted Bad t = t
+abbrev pub counted : std_option.Option Counted → List (List ℕ) → List (List ℕ)
+counted (Some l) t = raised l.row l.answer t
+counted None t = t
 
-abbrev pub bad_counted : Seen → ℕ → ℕ
-bad_counted (Counted i j s) n = n
-bad_counted Bad n = more n
+abbrev pub bad_counted : std_option.Option Counted → ℕ → ℕ
+bad_counted (Some l) n = n
+bad_counted None n = more n
 
-abbrev pub adding : Seen → InSeconds
-adding (Counted i j s) = s
-adding Bad = Sum 0
+abbrev pub adding : std_option.Option Counted → std_option.Option ℕ
+adding (Some l) = l.seconds
+adding None = Some 0

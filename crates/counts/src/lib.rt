@@ -2,28 +2,25 @@
 #![tactic(auto)]
 
 ghost use Rattle.std.specs.Prelude.{◌≡◌};
+ghost use Rattle.std.specs.declared.option.Option.TheVariants.{Some};
 ghost use Rattle.types.specs.Sums.{or_over};
-ghost use Rattle.parser.specs.Answer.{recorded};
-ghost use Rattle.kinds.specs.Kinds.{told};
-ghost use Rattle.counts.specs.Counts.{row_of, seconds_in, told_at, line_of};
-ghost use Rattle.counts.specs.Seen.{wholly, seen, more, raised, counted, bad_counted, adding};
+ghost use Rattle.parser.specs.Answer.{to_whole};
+ghost use Rattle.parser.specs.Told.{told};
+ghost use Rattle.counts.specs.Counts.{row_of, seconds_in, told_at, line_in, line_of};
+ghost use Rattle.counts.specs.Seen.{seen, more, raised, counted, bad_counted, adding};
 
-use kinds::answer::{Answer, Kind, Letter, Record};
-use types::InSeconds;
+use kinds::answer::{Answer, Kind, Record};
 
-// A line that is counted in the table, at its kind's row and its answer, with the seconds that it adds; or a bad one.
+// A count for each kind and each answer: a row for dates, times, offsets, date-times and durations, and in it answers 0 to 3.
+pub type Table = [[u64; 4]; 5];
+
+// What a line that is not bad counts as: the place of its count in the table, at its kind's row and its answer, and the seconds that it adds.
 #[derive(Clone, Copy)]
-pub enum Seen {
-    Counted {
-        row: usize,
-        answer: usize,
-        seconds: InSeconds,
-    },
-    Bad,
+pub struct Counted {
+    pub row: usize,
+    pub answer: usize,
+    pub seconds: Option<u64>,
 }
-
-// A count of no more lines than this is exact.
-const LARGEST: u64 = 18446744073709551615;
 
 // Intervals have no row: 5 lies outside the table, and no line that is seen names one.
 fn row_of(kind: Kind) -> usize
@@ -40,126 +37,95 @@ fn row_of(kind: Kind) -> usize
 }
 
 // The seconds of a duration; any other record adds nothing.
-fn seconds_of(value: Record) -> InSeconds
+#[tactic(auto, unfolding(types::specs::Sums::in_seconds))]
+fn seconds_of(value: Record) -> Option<u64>
     ensures { result ≡ or_over (seconds_in value) }
 {
     match value {
         Record::Duration(v) => v.in_seconds(),
-        Record::Date(_) => InSeconds::Sum(0),
-        Record::Time(_) => InSeconds::Sum(0),
-        Record::Offset(_) => InSeconds::Sum(0),
-        Record::Stamp(_) => InSeconds::Sum(0),
-        Record::Interval(_) => InSeconds::Sum(0),
+        _ => Some(0),
     }
 }
 
-fn counted(row: usize, answer: usize, seconds: InSeconds) -> Seen
-    ensures { result ≡ Seen.Counted row answer seconds }
+// What the whole reader would say where the beginning reader says this of so many bytes: bytes that are left over are answer 3, and add nothing.
+fn of_answer(row: usize, begun: Answer, all: usize) -> Counted
+    ensures { Some result ≡ seen (told_at row (to_whole all (told begun))) }
 {
-    Seen::Counted {
+    let (answer, seconds) = match begun {
+        Ok(record) if record.count < all => (3, Some(0)),
+        Ok(record) => (0, seconds_of(record.value)),
+        Err(refused) => (refused.why.number() as usize, Some(0)),
+    };
+    Counted {
         row,
         answer,
         seconds,
     }
 }
 
-// A record that so many of all bytes were read for: bytes that are left over are answer 3, and add nothing.
-fn of_record(row: usize, value: Record, count: usize, all: usize) -> Seen
-    ensures { result ≡ seen (told_at row (wholly all (recorded value count))) }
+// What the text of a line counts as, whose kind the line names. The beginning reader is asked: it takes plain forms at one go, and its count
+// tells the rest.
+#[tactic(auto, using(parser::proofs::Verdict::ended_whole))]
+fn of_text(kind: Kind, text: &[u8]) -> Counted
+    ensures { Some result ≡ seen (line_in (Some kind) text.now) }
 {
-    let adds = seconds_of(value);
-    if count < all {
-        return counted(row, 3, InSeconds::Sum(0));
-    }
-    counted(row, 0, adds)
+    let read = kinds::read(kind, text);
+    of_answer(row_of(kind), read.answer, text.len())
 }
 
-// What the whole reader would say where the beginning reader says this of so many bytes.
-fn of_answer(row: usize, begun: Answer, all: usize) -> Seen
-    ensures { result ≡ seen (told_at row (wholly all (told begun))) }
-{
-    let number = begun.number() as usize;
-    match begun {
-        Answer::Record { value, count } => of_record(row, value, count, all),
-        Answer::Refused { why: _, count: _ } => counted(row, number, InSeconds::Sum(0)),
-    }
-}
-
-// What a line counts as, without its end. The beginning reader is asked: it takes plain forms at one go, and its count tells the rest.
-pub fn see(line: &[u8]) -> Seen
+// What a line counts as, without its end; none where it is bad.
+#[tactic(auto, using(reply::proofs::Asked::plain_long, crate::proofs::Laws::seen_some, crate::proofs::Laws::seen_none))]
+pub fn see(line: &[u8]) -> Option<Counted>
     ensures { result ≡ seen (line_of line.now) }
 {
-    let asked = reply::plain_question(line);
-    match asked {
-        Letter::Names(kind) => {
-            let read = kinds::read(kind, &line[2..]);
-            let begun = read.answer;
-            of_answer(row_of(kind), begun, line.len() - 2)
-        }
-        Letter::Unknown => Seen::Bad,
-    }
+    let kind = reply::plain_question(line)?;
+    Some(of_text(kind, &line[2..]))
 }
 
 // One more, or as many where there is no room for more.
 fn one_more(n: u64) -> u64
     ensures { result ≡ more n }
 {
-    if n < LARGEST { n + 1 } else { n }
+    n.saturating_add(1)
 }
 
 // The table with one count raised; a place outside of it raises none.
-fn raise(table: [[u64; 4]; 5], row: usize, answer: usize) -> [[u64; 4]; 5]
+#[tactic(auto, unfolding(crate::specs::Seen::raised))]
+fn raise(mut table: Table, row: usize, answer: usize) -> Table
     ensures { result ≡ raised row answer table }
 {
-    if 5 <= row {
-        return table;
+    if row < 5 && answer < 4 {
+        table[row][answer] = one_more(table[row][answer]);
     }
-    if 4 <= answer {
-        return table;
-    }
-    let mut next = table;
-    next[row][answer] = one_more(table[row][answer]);
-    next
+    table
 }
 
 // The table with a line's count raised.
-pub fn count(table: [[u64; 4]; 5], line: Seen) -> [[u64; 4]; 5]
+pub fn count(table: Table, line: Option<Counted>) -> Table
     ensures { result ≡ counted line table }
 {
     match line {
-        Seen::Counted {
-            row,
-            answer,
-            seconds: _,
-        } => raise(table, row, answer),
-        Seen::Bad => table,
+        Some(at) => raise(table, at.row, at.answer),
+        None => table,
     }
 }
 
 // The bad lines, with this one where it is bad.
-pub fn count_bad(bad: u64, line: Seen) -> u64
+pub fn count_bad(bad: u64, line: Option<Counted>) -> u64
     ensures { result ≡ bad_counted line bad }
 {
     match line {
-        Seen::Counted {
-            row: _,
-            answer: _,
-            seconds: _,
-        } => bad,
-        Seen::Bad => one_more(bad),
+        Some(_) => bad,
+        None => one_more(bad),
     }
 }
 
 // The seconds that a line adds.
-pub fn seconds(line: Seen) -> InSeconds
+pub fn seconds(line: Option<Counted>) -> Option<u64>
     ensures { result ≡ adding line }
 {
     match line {
-        Seen::Counted {
-            row: _,
-            answer: _,
-            seconds: sum,
-        } => sum,
-        Seen::Bad => InSeconds::Sum(0),
+        Some(at) => at.seconds,
+        None => Some(0),
     }
 }

@@ -12,8 +12,8 @@ use Rattle.lines.specs.Lines.{pick, after, onto, split_by}
 use Rattle.parser.specs.Answer.{Told, begun, ended}
 use Rattle.kinds.specs.declared.answer.Kind.{Kind}
 use Rattle.kinds.specs.declared.answer.Record.{Record}
-use Rattle.kinds.specs.declared.answer.Letter.{Letter}
-use Rattle.kinds.specs.declared.answer.Letter.TheVariants.{Names, Unknown}
+use Rattle.std.specs.declared.option.Option.{Option}
+use Rattle.std.specs.declared.option.Option.TheVariants.{None, Some}
 use Rattle.kinds.specs.Kinds.{rule_of}
 use Rattle.words.specs.Words.{letters_of, word_text}
 use Rattle.words.specs.Records.{verdict_word}
@@ -61,9 +61,9 @@ says_short : (l t : List ℕ) → Says l t → length t ≤ 16000
 unfolding letters_of
 says_short l t a = go (question_of l) refl a
   where
-    go : (q : Letter) → question_of l ≡ q → SaysTo q (text_in l) t → length t ≤ 16000
-    go (Names k) e a = omega (arith, said_short k (pieces (text_in l)) [] t a, pieces_few (text_in l), names_short l k e)
-    go Unknown e a = rw a (omega arith)
+    go : (q : Option Kind) → question_of l ≡ q → SaysTo q (text_in l) t → length t ≤ 16000
+    go (Some k) e a = omega (arith, said_short k (pieces (text_in l)) [] t a, pieces_few (text_in l), names_short l k e)
+    go None e a = rw a (omega arith)
 
 pub line_short : (l t : List ℕ) → SaysLine l t → length t ≤ 16384
 line_short l t a = rw (a.ends, length-append a.said (10 ∷ [])) (omega (arith, says_short l a.said a.says))

@@ -4,8 +4,8 @@ use Rattle.types.specs.declared.Verdict.{Verdict}
 use Rattle.parser.specs.Answer.{Told, begun, ended, Begins}
 use Rattle.kinds.specs.declared.answer.Kind.{Kind}
 use Rattle.kinds.specs.declared.answer.Record.{Record}
-use Rattle.kinds.specs.declared.answer.Letter.{Letter}
-use Rattle.kinds.specs.declared.answer.Letter.TheVariants.{Names, Unknown}
+use Rattle.std.specs.declared.option.Option.{Option}
+use Rattle.std.specs.declared.option.Option.TheVariants.{None, Some}
 use Rattle.kinds.specs.Kinds.{rule_of, bound}
 use Rattle.lines.specs.Lines.{Split, split_by}
 use Rattle.text.specs.Text.{decimal}
@@ -49,9 +49,9 @@ SaysOf k all [] t = t ≡ end_of k all
 SaysOf k all (p ∷ ps) t = After k (all ++ p) (SaysOf k (all ++ p) ps) t
 
 -- "a line of any other form prints `unknown`"
-abbrev pub SaysTo : Letter → List ℕ → List ℕ → Type 0
-SaysTo (Names k) s t = SaysOf k [] (pieces s) t
-SaysTo Unknown s t = t ≡ letters_of name.Unknown
+abbrev pub SaysTo : Option Kind → List ℕ → List ℕ → Type 0
+SaysTo (Some k) s t = SaysOf k [] (pieces s) t
+SaysTo None s t = t ≡ letters_of name.Unknown
 
 abbrev pub Says : List ℕ → List ℕ → Type 0
 Says l t = SaysTo (question_of l) (text_in l) t

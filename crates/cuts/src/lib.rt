@@ -5,36 +5,27 @@
 ghost use Rattle.std.specs.Prelude.{◌≤◌, [], ◌≡◌, length};
 ghost use Rattle.reply.specs.Line.{Gives};
 ghost use Rattle.cuts.specs.Cuts.{SaysOf, pieces, Says, SaysLine};
-ghost use Rattle.cuts.specs.Said.{piece_end, SaysAnswer, SaysEnd};
+ghost use Rattle.cuts.specs.Said.{SaysAnswer, SaysEnd};
 
 use arriving::State;
-use kinds::answer::{Kind, Letter};
-use lines::Ended;
+use kinds::answer::Kind;
+use parser::answer::{count, number};
 use text::{put, put_byte, put_decimal};
 use words::records::verdict_word;
-use words::rows::{put_name, put_word};
+use words::rows::{put_name, put_word, put_words};
 use words::word::{Name, Word};
-
-// The place of the `|` that ends a piece, or of the text's end.
-fn piece_end(s: &[u8], from: usize) -> usize
-    ensures { result ≡ piece_end s.now from }
-{
-    match lines::place_of(s, from, b'|') {
-        Ended::At { end } => end,
-        Ended::Open => s.len(),
-    }
-}
 
 // B COUNT VERDICT, and the bar behind it
 fn put_answer(out: &mut [u8], at: usize, state: State) -> usize
     ensures { Gives (SaysAnswer state) out.old at out.new result }
 {
     let read = arriving::answer(state);
-    let begun = read.answer;
-    let verdict = read.verdict;
-    let next = put_decimal(out, at, begun.number());
-    let next = put_word(out, next, Word::Number(begun.count() as u64));
-    let next = put_word(out, next, verdict_word(verdict));
+    let words = [
+        Word::Number(count(read.answer) as u64),
+        verdict_word(read.verdict),
+    ];
+    let next = put_decimal(out, at, number(read.answer));
+    let next = put_words(out, next, &words);
     put(out, next, b" | ")
 }
 
@@ -44,8 +35,8 @@ fn put_end(out: &mut [u8], at: usize, state: State) -> usize
 {
     let whole = arriving::end(state);
     let last = arriving::answer(state).answer;
-    let next = put_decimal(out, at, whole.number());
-    let next = put_word(out, next, Word::Number(whole.count() as u64));
+    let next = put_decimal(out, at, number(whole));
+    let next = put_word(out, next, Word::Number(count(whole) as u64));
     reply::put_told(out, next, last, true)
 }
 
@@ -57,25 +48,21 @@ fn say_pieces(kind: Kind, s: &[u8], out: &mut [u8], at: usize) -> usize
 {
     let mut state = arriving::start(kind);
     let mut next = at;
-    let mut from = 0;
-    while from <= s.len() {
-        let end = piece_end(s, from);
-        state = arriving::step(state, &s[from..end]).state;
+    for piece in s.split(|b| *b == b'|') {
+        let _ = arriving::step(&mut state, piece);
         next = put_answer(out, next, state);
-        from = end + 1;
     }
     put_end(out, next, state)
 }
 
 // What `pieces` says of a line, without the line's end.
+#[tactic(auto, using(reply::proofs::Asked::names_long))]
 fn say(line: &[u8], out: &mut [u8], at: usize) -> usize
     ensures { Gives (Says line.now) out.old at out.new result }
 {
-    let asked = reply::question(line);
-    let from = reply::head_of(line).from;
-    match asked {
-        Letter::Names(kind) => say_pieces(kind, &line[from..], out, at),
-        Letter::Unknown => put_name(out, at, Name::Unknown),
+    match reply::question(line) {
+        Some(kind) => say_pieces(kind, &line[reply::head_of(line).from..], out, at),
+        None => put_name(out, at, Name::Unknown),
     }
 }
 
@@ -84,5 +71,5 @@ pub fn pieces_line(line: &[u8], out: &mut [u8], at: usize) -> usize
     ensures { Gives (SaysLine line.now) out.old at out.new result }
 {
     let next = say(line, out, at);
-    put_byte(out, next, 10)
+    put_byte(out, next, b'\n')
 }

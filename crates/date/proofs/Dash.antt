@@ -14,9 +14,14 @@ use Rattle.parser.specs.Reading.{Found, no, got, lit, seq, alt, map, Says}
 use Rattle.parser.specs.Digits.{digit}
 use Rattle.parser.specs.Fields.{month, day}
 use Rattle.parser.proofs.Fields.{true≢false, OtherAt}
-use Rattle.parser.proofs.Says.{says_seq_no, says_alt_no}
+use Rattle.parser.proofs.Says.{says_seq_no, says_alt_no, says_alt_got, says_alt_first}
 use Rattle.date.specs.Rules.{dash, week_and_day, wd, md_numeric, ordinal, ddd, month_and_day, md}
-use Rattle.parser.specs.Read.{place_after}
+use Rattle.std.specs.declared.result.Result.{Result}
+use Rattle.std.specs.declared.result.Result.TheVariants.{Ok, Err}
+use Rattle.parser.specs.declared.Miss.{Miss}
+use Rattle.parser.specs.declared.Miss.TheVariants as miss
+use Rattle.parser.specs.declared.Got.{Got}
+use Rattle.parser.specs.Read.{got_found, got_more, place_after}
 use Rattle.date.specs.Answer.{after_year}
 use Rattle.parser.proofs.Alike.{SameFrom, same_says, alt_same}
 use Rattle.parser.proofs.General.{preceded_same, after_same, alt_drop, field_no, field_wrong}
@@ -77,7 +82,7 @@ module _ (y : ℤ) (s : List ℕ) (at : ℕ) (bare : digit s at ≡ false) where
   numeric_no = rw (field_no 2 1 12 (omega arith) s at bare)
 
 module _ (y : ℤ) (s : List ℕ) (at from : ℕ) (e : from ≡ place_after at (dash.reads s at)) where
-  pub week_same : SameFrom (wd y) (week_and_day y) s at from
+  week_same : SameFrom (wd y) (week_and_day y) s at from
   week_same = preceded_same 45 (week_and_day y) (week_and_day_item y).eager s at from e
 
   ordinal_same : SameFrom (ddd y) (ordinal y) s at from
@@ -131,8 +136,16 @@ module _ (y : ℤ) (s : List ℕ) (at from : ℕ) (e : from ≡ place_after at (
   unfolding alt
   others_no bare = rw (numeric_no y s at (bare_before bare), ordinal_same.reads, ordinal_no y s from bare, md_no bare)
 
-  pub says_week_cut : Says (week_and_day y) s from no true → Says (after_year y) s at no true
+  says_week_cut : Says (week_and_day y) s from no true → Says (after_year y) s at no true
   unfolding after_year
   says_week_cut w =
       let others = alt (md_numeric y) (alt (ddd y) (md y)) in
       says_alt_no (wd y) s at others true no (others.more s at) (same_says week_same w) (record { found = sym (others_no (week_and_day_open y s from (sym w.more))); more = refl })
+
+  -- the week, unless it is wrong: then the others are tried
+  pub says_week : (r : Result (Got Date) Miss) → (r ≡ Err miss.Wrong → ⊥) → Says (week_and_day y) s from (got_found r) (got_more r) → Says (after_year y) s at (got_found r) (got_more r)
+  unfolding after_year
+  says_week (Ok g) w h = says_alt_got (wd y) s at (alt (md_numeric y) (alt (ddd y) (md y))) _ _ _ (same_says week_same h)
+  says_week (Err (miss.Stopped r)) w h = says_alt_first (wd y) s at (alt (md_numeric y) (alt (ddd y) (md y))) _ _ refl (same_says week_same h)
+  says_week (Err miss.Wrong) w h = absurd (w refl)
+  says_week (Err miss.Cut) w h = says_week_cut h

@@ -1,30 +1,22 @@
 // Dates of the plain form.
 ghost use Rattle.parser.specs.Reading.{Says};
+ghost use Rattle.parser.specs.Read.{got_found, got_more};
 ghost use Rattle.date.specs.Rules.{date};
-ghost use Rattle.date.specs.Answer.{date_found, date_more};
 
-use crate::{DateFound, date_at};
-use looks::PlainDate;
+use crate::date_at;
+use parser::{Found, Got};
+use types::Date;
 
 // A date at the very beginning. The plain form is tried before the rule.
-pub fn date_begun(s: &[u8]) -> DateFound
-    ensures { Says date s.now 0 (date_found result) (date_more result) }
+pub fn date_begun(s: &[u8]) -> Found<Date>
+    ensures { Says date s.now 0 (got_found result) (got_more result) }
 {
-    let plain = looks::plain_date(s);
-    match plain {
-        PlainDate::Got { value } => DateFound::Got {
+    match looks::plain_date(s) {
+        Some(value) => Ok(Got {
             value,
             next: 10,
             more: false,
-        },
-        PlainDate::Other => {
-            // taken apart and made anew: else the plain answer, too, would go through memory
-            let found = date_at(s, 0);
-            match found {
-                DateFound::Got { value, next, more } => DateFound::Got { value, next, more },
-                DateFound::Wrong => DateFound::Wrong,
-                DateFound::Cut => DateFound::Cut,
-            }
-        }
+        }),
+        None => date_at(s, 0),
     }
 }

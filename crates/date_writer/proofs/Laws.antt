@@ -2,13 +2,14 @@
 -- behind it.
 use Prim.Native.Nat.{ℕ, suc, ◌≤◌}
 use mathlib.Core.List.{List, [], ◌∷◌, ◌++◌, append_assoc}
-use mathlib.Core.Bool.{true}
+use mathlib.Core.Bool.{Bool, true}
 use mathlib.Core.Option.{Option, some, none}
 use mathlib.Core.Path.{◌≡◌, refl}
 use native.Mathlib.Omega.{arith}
 use borrow.Author.Tests.{le-leb, leb-true}
 use lib.Dec.{leb}
 use lib.IntN.{ℤ, pos, negsuc}
+use lib.ListN.{length}
 use Rattle.types.specs.declared.Date.{Date}
 use Rattle.types.specs.declared.Date.TheVariants.{YMD, Week, Ordinal}
 use Rattle.parser.specs.Reading.{lit, opt, and, within}
@@ -24,7 +25,8 @@ use Rattle.writing.proofs.Texts.{ReadAs, Refuses, lit_reads, seq_reads, seq_refu
 use Rattle.parser.proofs.Runs.{none}
 use Rattle.writing.proofs.Digits.{nat_abs_signed, padded_refuses, padded_digits, length_padded, field_reads, field_refuses}
 use Rattle.writing.proofs.Yields.{Yields, OrLeftOut, seq_yields, map_yields, opt_yields, alt_yields, verify_yields, preceded_yields, field_yields, anything}
-use Rattle.writing.proofs.Laws.{Spells}
+use Rattle.writing.specs.Writing.{Measures, measure}
+use Rattle.writing.proofs.Laws.{Spells, given_measures}
 use Rattle.date_writer.specs.Ranges.{year_given, date_given}
 
 within_from : (lo hi v : ℕ) → within lo hi v ≡ true → From lo hi v
@@ -147,3 +149,6 @@ date_yields =
 
 pub date_spells : Spells date date_spelling date_given
 date_spells = record { back = λ d e. whole (date_reads_lem d [] e); ranges = λ d r. date_yields.fact r.bytes 0 d r.count r.reads }
+
+pub date_measures : (d : Date) {t : Bool} {n : ℕ} → t ≡ date_given d → n ≡ length (date_spelling d) → Measures date d (date_spelling d) (measure t n)
+date_measures d e f = given_measures date_spells d e f

@@ -2,13 +2,22 @@
 use Prim.Native.Nat.{ℕ, ◌+◌, ◌≤◌}
 use mathlib.Core.List.{◌∷◌, ◌++◌}
 use mathlib.Core.Bool.{Bool, true, false}
-use mathlib.Core.Path.{◌≡◌, ◌∙◌}
+use mathlib.Core.Path.{◌≡◌, refl, ◌∙◌}
 use native.Mathlib.Omega.{arith}
 use lib.IntN.{ℤ, nat_abs}
 use lib.ListN.{length, length-append}
 use Rattle.types.specs.declared.Date.{Date}
 use Rattle.types.specs.declared.Date.TheVariants.{YMD, Week, Ordinal}
+use Rattle.parser.specs.Reading.{pick}
 use Rattle.writing.specs.Spelling.{padded, negative, year_sign, year_spelling, date_spelling}
+
+pub year_size : (y : ℤ) → length (year_spelling y) ≡ pick (negative y) 5 4
+unfolding year_spelling padded
+year_size y = go (negative y)
+  where
+    go : (t : Bool) → length (year_sign t ++ padded 4 (nat_abs y)) ≡ pick t 5 4
+    go true = refl
+    go false = refl
 
 pub year_short : (y : ℤ) → length (year_spelling y) ≤ 5
 unfolding year_spelling padded

@@ -3,23 +3,22 @@
 use Rattle.std.specs.Prelude.{ℕ, List, length, get_or, ltb, eqb}
 use Rattle.parser.specs.Reading.{pick}
 use Rattle.looks.specs.Date.{plain_date}
-use Rattle.looks.specs.Clock.{plain_clock, plain_millisecond}
-use Rattle.looks.specs.declared.PlainDate.{PlainDate}
-use Rattle.looks.specs.declared.PlainDate.TheVariants as date
-use Rattle.time.specs.Plain.{plain_time, first_plain}
-use Rattle.time.specs.declared.plain.PlainTime.{PlainTime}
-use Rattle.time.specs.declared.plain.PlainTime.TheVariants as time
+use Rattle.types.specs.declared.Date.{Date}
+use Rattle.types.specs.declared.Time.{Time}
+use Rattle.types.specs.declared.DateTime.{DateTime}
+use Rattle.std.specs.declared.option.Option.{Option}
+use Rattle.std.specs.declared.option.Option.TheVariants.{None, Some}
+use Rattle.parser.specs.declared.Got.{Got}
+use Rattle.time.specs.Plain.{plain_at}
 use Rattle.datetime.specs.Rules.{stamp}
-use Rattle.datetime.specs.declared.plain.PlainStamp.{PlainStamp}
-use Rattle.datetime.specs.declared.plain.PlainStamp.TheVariants.{Got, Other}
 
-unfoldable pub date_of_stamp : List ℕ → PlainDate
-date_of_stamp s = pick (ltb (length s) 19) date.Other (pick (eqb (get_or s 10 0) 84) (plain_date s) date.Other)
+unfoldable pub date_of_stamp : List ℕ → Option Date
+date_of_stamp s = pick (ltb (length s) 19) None (pick (eqb (get_or s 10 0) 84) (plain_date s) None)
 
-abbrev pub stamp_of : PlainTime → PlainDate → PlainStamp
-stamp_of (time.Got t n m) (date.Got d) = Got (stamp d t) n m
-stamp_of (time.Got t n m) date.Other = Other
-stamp_of time.Other d = Other
+abbrev pub stamp_of : Option (Got Time) → Option Date → Option (Got DateTime)
+stamp_of (Some t) (Some d) = Some (record { value = stamp d t.value; next = t.next; more = t.more })
+stamp_of (Some t) None = None
+stamp_of None d = None
 
-abbrev pub plain_stamp : List ℕ → PlainStamp
-plain_stamp s = stamp_of (first_plain (plain_time s 23 (plain_clock s 11) (plain_millisecond s 19) 3) (plain_time s 19 (plain_clock s 11) 0 0)) (date_of_stamp s)
+abbrev pub plain_stamp : List ℕ → Option (Got DateTime)
+plain_stamp s = stamp_of (plain_at s 11) (date_of_stamp s)

@@ -1,56 +1,42 @@
 // The writer of date-times: the date, `T`, and the time in the part of the buffer that begins behind them.
 #![tactic(auto)]
 
-ghost use Rattle.std.specs.Prelude.{◌≤◌, ◌≡◌, length};
 ghost use Rattle.datetime.specs.Rules.{date_time};
+ghost use Rattle.text.specs.Text.{Puts};
 ghost use Rattle.writing.specs.Spelling.{date_time_spelling};
-ghost use Rattle.writing.specs.Writing.{over, Measures, Writes};
+ghost use Rattle.writing.specs.Writing.{Measures, Writes};
 
 use date_writer::{date_length, put_date};
+use text::put_byte;
 use time_writer::{put_time, time_length};
 use types::{Choices, DateTime};
-use writing::{Measured, Written};
+use writing::{Unwritten, room_for};
 
 // The length of the date-time's spelling, where some reader gives the date-time.
-pub fn datetime_length(x: DateTime, choices: Choices) -> Measured
+#[tactic(auto, using(crate::proofs::Laws::no_date_measures, crate::proofs::Laws::no_time_measures, crate::proofs::Laws::parts_measure, crate::proofs::Laws::date_most, crate::proofs::Laws::time_most))]
+pub fn datetime_length(x: DateTime, choices: Choices) -> Option<usize>
     ensures { Measures (date_time choices) x (date_time_spelling x) result }
 {
-    let date = x.date;
-    let time = x.time;
-    match date_length(date) {
-        Measured::Length(d) => match time_length(time, choices) {
-            Measured::Length(t) => Measured::Length(d + 1 + t),
-            Measured::NoReader => Measured::NoReader,
-        },
-        Measured::NoReader => Measured::NoReader,
-    }
+    let date = date_length(x.date)?;
+    let time = time_length(x.time, choices)?;
+    Some(date + 1 + time)
 }
 
-// The time's writer is lent what lies behind the date and its `T`.
-fn put_datetime(buffer: &mut [u8], x: DateTime)
-    requires { length (date_time_spelling x) ≤ length buffer.old }
-    ensures { buffer.new ≡ over (date_time_spelling x) buffer.old }
+// Puts the date-time's spelling at the front. The time's writer is lent what lies behind the date and its `T`.
+pub fn put_datetime(out: &mut [u8], x: DateTime) -> usize
+    ensures { Puts (date_time_spelling x) out.old 0 out.new result }
 {
-    let date = x.date;
-    let time = x.time;
-    let n = put_date(buffer, date);
-    buffer[n] = b'T';
-    let from = n + 1;
-    put_time(&mut buffer[from..], time);
+    let next = put_date(out, x.date);
+    let next = put_byte(out, next, b'T');
+    next + put_time(&mut out[next..], x.time)
 }
 
 // Writes the date-time's spelling to the front of the buffer, for the edition that the caller names.
-pub fn write_datetime(x: DateTime, choices: Choices, buffer: &mut [u8]) -> Written
+#[tactic(auto, using(writing::proofs::Laws::refused_writes))]
+pub fn write_datetime(x: DateTime, choices: Choices, buffer: &mut [u8]) -> Result<usize, Unwritten>
     ensures { Writes (date_time choices) x (date_time_spelling x) buffer.old buffer.new result }
 {
-    match datetime_length(x, choices) {
-        Measured::Length(count) => {
-            if buffer.len() < count {
-                return Written::TooShort;
-            }
-            put_datetime(buffer, x);
-            Written::Text { count }
-        }
-        Measured::NoReader => Written::NoReader,
-    }
+    let count = room_for(datetime_length(x, choices), buffer)?;
+    put_datetime(buffer, x);
+    Ok(count)
 }

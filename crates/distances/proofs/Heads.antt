@@ -19,7 +19,7 @@ use Rattle.parser.specs.Reading.{and, pick}
 use Rattle.reply.specs.declared.Head.{Head}
 use Rattle.reply.specs.Line.{plain_head, has, head_from, head_of}
 use Rattle.distances.specs.Distances.{heading}
-use Rattle.distances.specs.Found.{Heads}
+use Rattle.distances.specs.Found.{Headed, Heads}
 
 -- what `has` asks first of a place
 there : (l : List ℕ) (at : ℕ) → at < length l → ltb at (length l) ≡ true
@@ -39,12 +39,6 @@ head_once c c' x x' e =
     let h = heading c.edition c.reading in
     let behind = sym (drop-append_seam h (32 ∷ x)) ∙ ap (drop (length h)) (e ∙ ap (λ (d : Choices). heading d.edition d.reading ++ 32 ∷ x') (sym same)) ∙ drop-append_seam h (32 ∷ x') in
     (same, ap (drop 1) behind)
-
--- the letter `s` stands first, and a space last in the head that `head_of` finds
-pub record Headed (l : List ℕ) : Type 0 where
-  pub long : (head_of l).from ≤ length l
-  pub letter : get_or l 0 0 ≡ 115
-  pub space : get_or l ((head_of l).from - 1) 0 ≡ 32
 
 headed_by : (e : Edition) (r : Reading) (x : List ℕ) → Headed (heading e r ++ 32 ∷ x)
 headed_by E2019 Old x = let h = finds_head E2019 Old x in record { long = rw h (omega arith); letter = refl; space = rw h }

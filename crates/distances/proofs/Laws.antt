@@ -6,13 +6,16 @@ use mathlib.Core.Path.{◌≡◌, sym, ◌∙◌}
 use native.Mathlib.Omega.{arith}
 use lib.IntN.{ℤ, pos, negsuc}
 use lib.ListN.{length, take, length-append}
+use Rattle.std.specs.declared.result.Result.{Result}
+use Rattle.std.specs.declared.result.Result.TheVariants.{Ok, Err}
 use Rattle.types.specs.declared.Choices.{Choices}
 use Rattle.types.specs.declared.Edition.{Edition}
 use Rattle.types.specs.declared.Edition.TheVariants.{E2004, E2019}
 use Rattle.types.specs.declared.Reading.{Reading}
 use Rattle.types.specs.declared.Reading.TheVariants.{Old, Standard}
 use Rattle.moments.specs.declared.Apart.{Apart}
-use Rattle.moments.specs.declared.Apart.TheVariants.{By, First, Second}
+use Rattle.moments.specs.declared.Faulty.{Faulty}
+use Rattle.moments.specs.declared.Faulty.TheVariants.{First, Second}
 use Rattle.moments.specs.Moments.{fault_number}
 use Rattle.text.proofs.Decimals.{digits_short}
 use Rattle.words.specs.Words.{letters_of}
@@ -32,10 +35,10 @@ signed_short : (z : ℤ) → length (signed z) ≤ 21
 signed_short (pos n) = omega (arith, digits_short 20 n)
 signed_short (negsuc n) = omega (arith, digits_short 20 (suc n))
 
-apart_short : (r : Apart) → length (apart_text r) ≤ 42
-apart_short (By s n) = simp length-append (omega (arith, signed_short s, digits_short 20 n))
-apart_short (First f) = simp length-append (omega (arith, digits_short 20 (fault_number f)))
-apart_short (Second f) = simp length-append (omega (arith, digits_short 20 (fault_number f)))
+apart_short : (r : Result Apart Faulty) → length (apart_text r) ≤ 42
+apart_short (Ok d) = simp length-append (omega (arith, signed_short d.seconds, digits_short 20 d.nanoseconds))
+apart_short (Err (First f)) = simp length-append (omega (arith, digits_short 20 (fault_number f)))
+apart_short (Err (Second f)) = simp length-append (omega (arith, digits_short 20 (fault_number f)))
 
 away_short : (l t : List ℕ) → Away l t → length t ≤ 42
 unfolding letters_of

@@ -4,12 +4,12 @@ use mathlib.Core.List.{List, ◌∷◌, ◌++◌}
 use mathlib.Core.Path.{◌≡◌, sym, ap, ◌∙◌}
 use lib.ListN.{drop}
 use Rattle.types.specs.declared.Choices.{Choices}
-use Rattle.lines.specs.declared.Ended.TheVariants.{At, Open}
+use Rattle.std.specs.declared.option.Option.TheVariants.{None, Some}
 use Rattle.lines.specs.Lines.{place_of, between}
 use Rattle.distances.specs.Distances.{heading, IsText, Asks, AsksNothing}
-use Rattle.distances.specs.Found.{Heads, AsksAt}
+use Rattle.distances.specs.Found.{Headed, Heads}
 use Rattle.distances.proofs.Parts.{parted_once, never_free, parted, unparted}
-use Rattle.distances.proofs.Heads.{Headed, headed, head_once}
+use Rattle.distances.proofs.Heads.{headed, head_once}
 
 pub headless : {l : List ℕ} → (Headed l → ⊥) → AsksNothing l
 headless h c s t a = h (rw a.form (headed c (s ++ 32 ∷ t)))
@@ -19,10 +19,10 @@ module _ {c : Choices} {from : ℕ} {l : List ℕ} (heads : Heads c from l) wher
   behind : (c' : Choices) (s t : List ℕ) → Asks c' s t l → drop from l ≡ s ++ 32 ∷ t
   behind c' s t a = (head_once c c' (drop from l) (s ++ 32 ∷ t) (sym heads.begins ∙ a.form)).1
 
-  pub no_space : place_of 32 l from ≡ Open → AsksNothing l
+  pub no_space : place_of 32 l from ≡ None → AsksNothing l
   no_space e c' s t a = never_free 32 s t (rw (behind c' s t a) at (unparted 32 l from e))
 
-  module _ {space : ℕ} (e : place_of 32 l from ≡ At space) where
+  module _ {space : ℕ} (e : place_of 32 l from ≡ Some space) where
     texts : (c' : Choices) (s t : List ℕ) → Asks c' s t l → (between from space l ≡ s) × (drop (space + 1) l ≡ t)
     texts c' s t a =
         let p = parted 32 l from space e in
@@ -34,11 +34,7 @@ module _ {c : Choices} {from : ℕ} {l : List ℕ} (heads : Heads c from l) wher
     pub no_second : (IsText (drop (space + 1) l) → ⊥) → AsksNothing l
     no_second h c' s t a = h (rw (texts c' s t a).1 a.second)
 
-    pub finds : IsText (between from space l) → IsText (drop (space + 1) l) → AsksAt c from space l
+    pub finds : IsText (between from space l) → IsText (drop (space + 1) l) → Asks c (between from space l) (drop (space + 1) l) l
     finds first second =
         let p = parted 32 l from space e in
-        record {
-          asks = record { form = heads.begins ∙ ap (λ (x : List ℕ). heading c.edition c.reading ++ 32 ∷ x) p.parts; first = first; second = second };
-          on = p.on;
-          within = p.within;
-        }
+        record { form = heads.begins ∙ ap (λ (x : List ℕ). heading c.edition c.reading ++ 32 ∷ x) p.parts; first = first; second = second }

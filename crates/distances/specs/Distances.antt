@@ -1,12 +1,14 @@
 -- What `apart` prints for a line.
-use Rattle.std.specs.Prelude.{ℕ, suc, ◌≤◌, List, [], ◌∷◌, ◌++◌, ◌⊎◌, ◌≡◌, ℤ, pos, negsuc, length}
+use Rattle.std.specs.Prelude.{ℕ, suc, ◌≤◌, List, [], ◌∷◌, ◌++◌, ◌⊎◌, ◌≡◌, ℤ, pos, negsuc, length, Result}
+use Rattle.std.specs.declared.result.Result.TheVariants.{Ok, Err}
 use Rattle.types.specs.declared.Choices.{Choices}
 use Rattle.types.specs.declared.Edition.{Edition}
 use Rattle.types.specs.declared.Edition.TheVariants.{E2004, E2019}
 use Rattle.types.specs.declared.Reading.{Reading}
 use Rattle.types.specs.declared.Reading.TheVariants.{Old, Standard}
 use Rattle.moments.specs.declared.Apart.{Apart}
-use Rattle.moments.specs.declared.Apart.TheVariants.{By, First, Second}
+use Rattle.moments.specs.declared.Faulty.{Faulty}
+use Rattle.moments.specs.declared.Faulty.TheVariants.{First, Second}
 use Rattle.moments.specs.Moments.{fault_number}
 use Rattle.gaps.specs.Gaps.{Tells}
 use Rattle.lines.specs.Lines.{FreeOf}
@@ -44,10 +46,10 @@ abbrev pub signed : ℤ → List ℕ
 signed (pos n) = decimal n
 signed (negsuc n) = 45 ∷ decimal (suc n)
 
-abbrev pub apart_text : Apart → List ℕ
-apart_text (By seconds nanoseconds) = signed seconds ++ 32 ∷ decimal nanoseconds
-apart_text (First fault) = refused_word ++ decimal (fault_number fault)
-apart_text (Second fault) = refused_word ++ decimal (fault_number fault)
+abbrev pub apart_text : Result Apart Faulty → List ℕ
+apart_text (Ok apart) = signed apart.seconds ++ 32 ∷ decimal apart.nanoseconds
+apart_text (Err (First fault)) = refused_word ++ decimal (fault_number fault)
+apart_text (Err (Second fault)) = refused_word ++ decimal (fault_number fault)
 
 -- the line l asks, and t is what is told of its two texts
 pub record Answers (l t : List ℕ) : Type 0 where
@@ -55,7 +57,7 @@ pub record Answers (l t : List ℕ) : Type 0 where
   pub first : List ℕ
   pub second : List ℕ
   pub asks : Asks choices first second l
-  pub apart : Apart
+  pub apart : Result Apart Faulty
   pub tells : Tells choices first second apart
   pub says : t ≡ apart_text apart
 

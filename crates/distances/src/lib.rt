@@ -2,101 +2,89 @@
 // `apart_line`.
 #![tactic(auto)]
 
-ghost use Rattle.std.specs.Prelude.{◌++◌};
+ghost use Rattle.std.specs.Prelude.{◌≡◌, ◌++◌};
 ghost use Rattle.moments.specs.Moments.{fault_number};
 ghost use Rattle.text.specs.Text.{Puts, decimal};
-ghost use Rattle.reply.specs.Line.{Gives};
+ghost use Rattle.reply.specs.Line.{Gives, head_of};
 ghost use Rattle.spellings.specs.Said.{refused_word};
 ghost use Rattle.distances.specs.Distances.{IsText, signed, apart_text, Away, AwayLine};
-ghost use Rattle.distances.specs.Found.{Decides, Heads, Finds};
+ghost use Rattle.distances.specs.Found.{Decides, Headed, Heads, Finds};
 
-use lines::Ended;
-use moments::{Apart, Fault};
+use moments::{Apart, Fault, Faulty};
 use text::{put, put_byte, put_decimal};
 use types::Choices;
 use words::rows::put_name;
-use words::word::{Name, Word, signed};
+use words::word::Name;
 
-// What a line asks: the first text stands from a place up to the space, the second behind that; or nothing.
+// As long as a text of a line gets.
+const LONGEST: usize = 200;
+
+// What a line asks: how far the second text lies behind the first.
 #[derive(Clone, Copy)]
-enum Asked {
-    Of {
-        choices: Choices,
-        from: usize,
-        space: usize,
-    },
-    Nothing,
+struct Asked<'a> {
+    choices: Choices,
+    first: &'a [u8],
+    second: &'a [u8],
 }
 
-// Whether some bytes are a text: at most 200, and no space.
+// Whether some bytes are a text: at most so many, and no space.
 fn is_text(s: &[u8]) -> bool
     ensures { Decides (IsText s.now) result }
 {
-    if 200 < s.len() {
-        return false;
-    }
-    match lines::place_of(s, 0, b' ') {
-        Ended::At { end: _ } => false,
-        Ended::Open => true,
-    }
+    s.len() <= LONGEST && !s.contains(&b' ')
 }
 
 // What a line asks whose texts stand from a place on: they are parted by its next space.
-fn texts_from(line: &[u8], from: usize, choices: Choices) -> Asked
+#[tactic(auto, using(lines::proofs::Laws::place_within))]
+fn texts_from(line: &[u8], from: usize, choices: Choices) -> Option<Asked>
     requires { Heads choices from line.now }
     ensures { Finds line.now result }
 {
-    match lines::place_of(line, from, b' ') {
-        Ended::At { end } => {
-            if !is_text(&line[from..end]) {
-                return Asked::Nothing;
-            }
-            if !is_text(&line[end + 1..]) {
-                return Asked::Nothing;
-            }
-            Asked::Of {
-                choices,
-                from,
-                space: end,
-            }
-        }
-        Ended::Open => Asked::Nothing,
+    let space = lines::place_of(line, from, b' ')?;
+    let first = &line[from..space];
+    let second = &line[space + 1..];
+    if is_text(first) && is_text(second) {
+        Some(Asked {
+            choices,
+            first,
+            second,
+        })
+    } else {
+        None
     }
 }
 
-// What a line asks.
-fn find_texts(line: &[u8]) -> Asked
+// Whether a line begins with the letter of a date-time, and has a space last in the head that `head_of` finds, which ends at a place.
+#[tactic(auto, using(reply::proofs::Asked::head_size))]
+fn is_headed(line: &[u8], from: usize) -> bool
+    requires { from ≡ (head_of line.now).from }
+    ensures { Decides (Headed line.now) result }
+{
+    from <= line.len() && line[0] == b's' && line[from - 1] == b' '
+}
+
+// What a line asks, if anything.
+#[tactic(auto, using(crate::proofs::Heads::heads, crate::proofs::Search::headless))]
+fn find_texts(line: &[u8]) -> Option<Asked>
     ensures { Finds line.now result }
 {
     let head = reply::head_of(line);
-    let from = head.from;
-    let choices = head.choices;
-    if line.len() < from {
-        return Asked::Nothing;
+    if is_headed(line, head.from) {
+        texts_from(line, head.from, head.choices)
+    } else {
+        None
     }
-    if line[0] != b's' {
-        return Asked::Nothing;
-    }
-    if line[from - 1] != b' ' {
-        return Asked::Nothing;
-    }
-    texts_from(line, from, choices)
 }
 
-// A number in decimal, with its minus where it has one: the word of it without the space.
+// A number in decimal, with its minus where it has one.
 fn put_signed(n: i64, out: &mut [u8], at: usize) -> usize
     ensures { Puts (signed n) out.old at out.new result }
 {
-    match signed(n) {
-        Word::Number(k) => put_decimal(out, at, k),
-        Word::Minus(k) => {
-            let next = put_byte(out, at, b'-');
-            put_decimal(out, next, k)
-        }
-        Word::Name(_) => at,
-        Word::Joined(_) => at,
-        Word::Digits(_) => at,
-        Word::Nothing => at,
+    if n < 0 {
+        let next = put_byte(out, at, b'-');
+        put_decimal(out, next, n.unsigned_abs())
+    } else {
+        put_decimal(out, at, n as u64)
     }
 }
 
@@ -109,20 +97,16 @@ fn put_refused(fault: Fault, out: &mut [u8], at: usize) -> usize
 }
 
 // SECONDS NANOS or refused N
-fn put_apart(apart: Apart, out: &mut [u8], at: usize) -> usize
+fn put_apart(apart: Result<Apart, Faulty>, out: &mut [u8], at: usize) -> usize
     ensures { Puts (apart_text apart) out.old at out.new result }
 {
     match apart {
-        Apart::By {
-            seconds,
-            nanoseconds,
-        } => {
-            let next = put_signed(seconds, out, at);
+        Ok(apart) => {
+            let next = put_signed(apart.seconds, out, at);
             let next = put_byte(out, next, b' ');
-            put_decimal(out, next, nanoseconds as u64)
+            put_decimal(out, next, apart.nanoseconds as u64)
         }
-        Apart::First(fault) => put_refused(fault, out, at),
-        Apart::Second(fault) => put_refused(fault, out, at),
+        Err(Faulty::First(fault) | Faulty::Second(fault)) => put_refused(fault, out, at),
     }
 }
 
@@ -130,17 +114,13 @@ fn put_apart(apart: Apart, out: &mut [u8], at: usize) -> usize
 fn say(line: &[u8], out: &mut [u8], at: usize) -> usize
     ensures { Gives (Away line.now) out.old at out.new result }
 {
-    let asked = find_texts(line);
-    match asked {
-        Asked::Of {
-            choices,
-            from,
-            space,
-        } => {
-            let told = gaps::apart(&line[from..space], &line[space + 1..], choices);
-            put_apart(told, out, at)
-        }
-        Asked::Nothing => put_name(out, at, Name::Unknown),
+    match find_texts(line) {
+        Some(asked) => put_apart(
+            gaps::apart(asked.first, asked.second, asked.choices),
+            out,
+            at,
+        ),
+        None => put_name(out, at, Name::Unknown),
     }
 }
 
@@ -149,5 +129,5 @@ pub fn apart_line(line: &[u8], out: &mut [u8], at: usize) -> usize
     ensures { Gives (AwayLine line.now) out.old at out.new result }
 {
     let next = say(line, out, at);
-    put_byte(out, next, 10)
+    put_byte(out, next, b'\n')
 }

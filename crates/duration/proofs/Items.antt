@@ -7,18 +7,22 @@ use Rattle.parser.proofs.Least.{run_least}
 use Rattle.parser.proofs.Says.{says_opt, says_seq_got, says_seq_stop}
 use Rattle.parts.specs.Items.{item_of, item_at, here, past}
 use Rattle.parts.specs.declared.Item.{Item}
-use Rattle.parts.specs.declared.Item.TheVariants as item
+use Rattle.std.specs.declared.result.Result.{Result}
+use Rattle.std.specs.declared.result.Result.TheVariants.{Ok, Err}
+use Rattle.types.specs.declared.Refusal.{Refusal}
+use Rattle.types.specs.Numbers.{number_of}
+use Rattle.parser.specs.Read.{missed}
+use Rattle.parser.specs.declared.Miss.{Miss}
+use Rattle.parser.specs.declared.Miss.TheVariants as miss
 use Rattle.parts.proofs.Items.{run_inside, run_to_end, run_stop}
 use Rattle.duration.specs.Rules.{part, present}
 use Rattle.duration.specs.Items.{is_cut, unless_too_big}
 
 -- ---- what a part finds, by what stands at its place
 
-abbrev part_found : ℕ → Item → Found ℕ
-part_found c (item.Number v b n) = pick (eqb b c) (got v n) no
-part_found c item.TooBig = stop 2
-part_found c item.Wrong = no
-part_found c item.Cut = no
+abbrev part_found : ℕ → Result Item Miss → Found ℕ
+part_found c (Ok i) = pick (eqb i.letter c) (got i.value i.next) no
+part_found c (Err m) = missed m
 
 pub map_pick : {A B : Type 0} (g : A → B) (t : Bool) (a : A) (n : ℕ) → pick t (got (g a) n) no ≡ map_found g (pick t (got a n) no)
 map_pick g true a n = refl
@@ -41,13 +45,13 @@ part_says c s at = go (run.reads s at) (run.more s at) refl refl
 
 -- a rule that tries a part first: it stops at a number that is too big, and is open where the part is
 pub record Heeds {A : Type 0} (q : Reader A) (s : List ℕ) (at : ℕ) : Type 0 where
-  pub stops : item_at s at ≡ item.TooBig → Says q s at (stop 2) false
-  pub opens : item_at s at ≡ item.Cut → q.more s at ≡ true
+  pub stops : (r : Refusal) → item_at s at ≡ Err (miss.Stopped r) → Says q s at (stop (number_of r)) false
+  pub opens : item_at s at ≡ Err miss.Cut → q.more s at ≡ true
 
 pub part_heeds : {A : Type 0} (c : ℕ) (q : Option ℕ → Reader A) (s : List ℕ) (at : ℕ) → Heeds (seq (opt (part c)) q) s at
 unfolding seq opt
 part_heeds c q s at = record {
-  stops = λ e. says_seq_stop (opt (part c)) s at q 2 false (says_opt (part c) s at (stop 2) false (rw e at (part_says c s at)));
+  stops = λ r e. says_seq_stop (opt (part c)) s at q (number_of r) false (says_opt (part c) s at (stop (number_of r)) false (rw e at (part_says c s at)));
   opens = λ e. rw (← (part_says c s at).more, e);
 }
 
@@ -57,15 +61,15 @@ optional_part {A} c q s at next f m h en k = go (item_at s at) refl (part_says c
     absent : Says (part c) s at no false → Says (q none) s at f m → Says (seq (opt (part c)) q) s at f m
     absent p k = says_seq_got (opt (part c)) s at q none at false f m (says_opt (part c) s at no false p) k
 
-    go : (i : Item) → item_at s at ≡ i → Says (part c) s at (part_found c i) (is_cut i) → Says (q (here c i)) s (past c at i) f m → Says (seq (opt (part c)) q) s at f m
-    go (item.Number v b n) e p k = letter (eqb b c) p k
+    go : (i : Result Item Miss) → item_at s at ≡ i → Says (part c) s at (part_found c i) (is_cut i) → Says (q (here c i)) s (past c at i) f m → Says (seq (opt (part c)) q) s at f m
+    go (Ok i) e p k = letter (eqb i.letter c) p k
       where
-        letter : (t : Bool) → Says (part c) s at (pick t (got v n) no) false → Says (q (pick t (some v) none)) s (pick t n at) f m → Says (seq (opt (part c)) q) s at f m
-        letter true p k = says_seq_got (opt (part c)) s at q (some v) n false f m (says_opt (part c) s at (got v n) false p) k
+        letter : (t : Bool) → Says (part c) s at (pick t (got i.value i.next) no) false → Says (q (pick t (some i.value) none)) s (pick t i.next at) f m → Says (seq (opt (part c)) q) s at f m
+        letter true p k = says_seq_got (opt (part c)) s at q (some i.value) i.next false f m (says_opt (part c) s at (got i.value i.next) false p) k
         letter false p k = absent p k
-    go item.Wrong e p k = absent p k
-    go item.Cut e p k = rw (k.more ∙ h.opens e) (says_seq_got (opt (part c)) s at q none at true f m (says_opt (part c) s at no true p) k)
-    go item.TooBig e p k = rw (k.found ∙ sym (h.stops e).found, k.more ∙ sym (h.stops e).more) (says_seq_stop (opt (part c)) s at q 2 false (says_opt (part c) s at (stop 2) false p))
+    go (Err miss.Wrong) e p k = absent p k
+    go (Err miss.Cut) e p k = rw (k.more ∙ h.opens e) (says_seq_got (opt (part c)) s at q none at true f m (says_opt (part c) s at no true p) k)
+    go (Err (miss.Stopped r)) e p k = rw (k.found ∙ sym (h.stops r e).found, k.more ∙ sym (h.stops r e).more) (says_seq_stop (opt (part c)) s at q (number_of r) false (says_opt (part c) s at (stop (number_of r)) false p))
 
 -- the last part of a rule, behind which nothing is tried
 pub last_part : {A : Type 0} (c : ℕ) (g : Option ℕ → A) (s : List ℕ) (at : ℕ) → Says (seq (opt (part c)) (λ o. give (g o))) s at (unless_too_big (item_at s at) (got (g (here c (item_at s at))) (past c at (item_at s at)))) (is_cut (item_at s at))
@@ -81,15 +85,15 @@ last_part {A} c g s at = go (item_at s at) (part_says c s at)
     absent : (m : Bool) → Says (part c) s at no m → Says (seq (opt (part c)) q) s at (got (g none) at) (or m false)
     absent m p = says_seq_got (opt (part c)) s at q none at m (got (g none) at) false (says_opt (part c) s at no m p) (taken none at)
 
-    go : (i : Item) → Says (part c) s at (part_found c i) (is_cut i) → Says (seq (opt (part c)) q) s at (unless_too_big i (got (g (here c i)) (past c at i))) (is_cut i)
-    go (item.Number v b n) p = letter (eqb b c) p
+    go : (i : Result Item Miss) → Says (part c) s at (part_found c i) (is_cut i) → Says (seq (opt (part c)) q) s at (unless_too_big i (got (g (here c i)) (past c at i))) (is_cut i)
+    go (Ok i) p = letter (eqb i.letter c) p
       where
-        letter : (t : Bool) → Says (part c) s at (pick t (got v n) no) false → Says (seq (opt (part c)) q) s at (got (g (pick t (some v) none)) (pick t n at)) false
-        letter true p = says_seq_got (opt (part c)) s at q (some v) n false (got (g (some v)) n) false (says_opt (part c) s at (got v n) false p) (taken (some v) n)
+        letter : (t : Bool) → Says (part c) s at (pick t (got i.value i.next) no) false → Says (seq (opt (part c)) q) s at (got (g (pick t (some i.value) none)) (pick t i.next at)) false
+        letter true p = says_seq_got (opt (part c)) s at q (some i.value) i.next false (got (g (some i.value)) i.next) false (says_opt (part c) s at (got i.value i.next) false p) (taken (some i.value) i.next)
         letter false p = absent false p
-    go item.Wrong p = absent false p
-    go item.Cut p = absent true p
-    go item.TooBig p = says_seq_stop (opt (part c)) s at q 2 false (says_opt (part c) s at (stop 2) false p)
+    go (Err miss.Wrong) p = absent false p
+    go (Err miss.Cut) p = absent true p
+    go (Err (miss.Stopped r)) p = says_seq_stop (opt (part c)) s at q (number_of r) false (says_opt (part c) s at (stop (number_of r)) false p)
 
 -- a part lies further on exactly where it is there
 pub record Further (c : ℕ) (s : List ℕ) (at : ℕ) : Type 0 where

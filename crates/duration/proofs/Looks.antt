@@ -1,11 +1,12 @@
 -- What a look is made of, and what it tells: the part that stands at a place, and whether the input ended there.
-use Rattle.std.proofs.Common.{◌≡◌, ℕ, ◌+◌, ◌-◌, ◌*◌, ◌<◌, ◌≤◌, Bool, true, false, ltb, List, length, get_or, sym, refl, ap, ◌∙◌, arith, ltb-false, ltb-true, le-ltb, lt-ltb, eq-eqb, ne_eqb}
+use Rattle.std.proofs.Common.{◌≡◌, ℕ, ◌+◌, ◌-◌, ◌*◌, ◌<◌, ◌≤◌, Bool, true, false, ltb, List, length, get_or, sym, refl, ap, ◌∙◌, arith, ltb-false, le-ltb, lt-ltb, eq-eqb, ne_eqb}
 use Rattle.parser.specs.Reading.{Found, lit}
 use Rattle.parser.specs.Read.{place_after}
 use Rattle.parser.specs.Digits.{is_digit, digit}
 use Rattle.parser.proofs.Fields.{and_first, and_second, true≢false, digit_within, DigitAt, OtherAt}
 use Rattle.parts.specs.Items.{item_at, part_of, absent_part, part_at}
-use Rattle.parts.specs.declared.Item.TheVariants as item
+use Rattle.std.specs.declared.result.Result.TheVariants.{Err}
+use Rattle.parser.specs.declared.Miss.TheVariants as miss
 use Rattle.parts.specs.declared.Part.{Part}
 use Rattle.parts.proofs.Items.{end_item, other_item, digit_item, last_digit_item, two_digit_item, last_two_item}
 use Rattle.duration.specs.declared.DurationTimeParts.{DurationTimeParts}
@@ -38,21 +39,8 @@ module _ (s : List ℕ) (at : ℕ) where
   pub no_room : length s ≤ at + 1 → Looks s at no_part
   no_room h = none refl (λ d. last_digit_item s at (digit_of s at d) h)
 
-  pub no_digit : OtherAt s at → Looks s at no_part
-  no_digit o = none refl (λ d. absurd (not_both s at (digit_of s at d) o))
-
-  pub one_digit : get_or s (at + 1) 0 < 256 → OtherAt s (at + 1) → Looks s at (get_or s (at + 1) 0)
-  one_digit b o = one refl b (omega (arith, ltb-true (at + 1) (length s) o.inside)) o.is
-
-  module _ (d : DigitAt s at) where
-    pub no_letter_left : DigitAt s (at + 1) → length s ≤ at + 2 → Looks s at no_part
-    no_letter_left e h = none refl (λ _. last_two_item s at d e h)
-
-    pub two_digits : DigitAt s (at + 1) → get_or s (at + 2) 0 < 256 → OtherAt s (at + 2) → Looks s at (get_or s (at + 2) 0 + 256)
-    two_digits e b o = two refl (omega arith) (omega (arith, ltb-true (at + 2) (length s) o.inside)) (digit_is s at d) (digit_is s (at + 1) e) o.is
-
-    pub three_digits : Looks s at long_run
-    three_digits = long refl (digit_is s at d)
+  pub no_letter_left : DigitAt s at → DigitAt s (at + 1) → length s ≤ at + 2 → Looks s at no_part
+  no_letter_left d e h = none refl (λ _. last_two_item s at d e h)
 
 -- ---- a look at a letter
 
@@ -161,7 +149,7 @@ module _ (s : List ℕ) (at l : ℕ) (short : l ≡ long_run → ⊥) where
 
 module _ (s : List ℕ) (at l : ℕ) where
   -- where no part is told and a digit stands, the input ended
-  pub look_open : Looks s at l → l ≡ no_part → DigitAt s at → item_at s at ≡ item.Cut
+  pub look_open : Looks s at l → l ≡ no_part → DigitAt s at → item_at s at ≡ Err miss.Cut
   look_open (none e k) q d = k (digit_is s at d)
   look_open (one e b r o) q d = absurd (omega arith)
   look_open (two e b r x f o) q d = absurd (omega arith)
@@ -173,6 +161,17 @@ module _ (s : List ℕ) (at l : ℕ) where
   look_long (one e b r o) q = absurd (omega arith)
   look_long (two e b r x f o) q = absurd (omega arith)
   look_long (long e x) q = digit_of s at x
+
+-- ---- whether the input ended where a part could still be written
+
+-- where no part is told, a digit says so
+pub digit_open : (s : List ℕ) (at : ℕ) → Looks s at no_part → at < length s → is_digit (get_or s at 0) ≡ is_cut (item_at s at)
+digit_open s at l h = go (place s at)
+  where
+    go : Place s at → is_digit (get_or s at 0) ≡ is_cut (item_at s at)
+    go (digit_here d) = rw (d.is, look_open s at no_part l refl d)
+    go (other_here o) = rw (o.is, other_item s at o)
+    go (end_here e) = absurd (omega arith)
 
 -- ---- a part that is tried by a look
 

@@ -1,20 +1,22 @@
 -- What the code makes of the time is what the rules read: part by part, each from the place that the one before it left.
-use Rattle.std.proofs.Common.{◌≡◌, ℕ, ◌<◌, ◌≤◌, Bool, true, false, eqb, ltb, List, sym, refl, ◌∙◌, arith, ltb-false, ltb-true, le-ltb, lt-ltb}
-use mathlib.Core.Option.{some, none}
+use Rattle.std.proofs.Common.{◌≡◌, ℕ, ◌≤◌, Bool, true, false, ltb, List, sym, refl, ◌∙◌, arith, ltb-false, ltb-true, lt-ltb}
+use mathlib.Core.Option.{none}
 use Rattle.parser.specs.Reading.{Found, no, got, stop, lit, seq, opt, verify, keep, map, map_found, give, pick, or, Says}
 use Rattle.parser.specs.Read.{place_after}
-use Rattle.parser.proofs.Fields.{true≢false}
 use Rattle.parser.proofs.General.{says_past}
 use Rattle.parser.proofs.Says.{says_map, says_verify}
-use Rattle.parser.specs.Fields.{or_zero}
-use Rattle.duration.specs.Rules.{part, present, TimeParts, some_time, time_of, duration_base_time, duration_time}
-use Rattle.parts.specs.Items.{item_at, here, past, part_of, absent_part, part_by, part_at, Tries}
+use Rattle.duration.specs.Rules.{part, TimeParts, some_time, time_of, duration_base_time, duration_time}
+use Rattle.parts.specs.Items.{item_at, here, past, part_at, Tries}
 use Rattle.duration.specs.Items.{is_cut, unless_too_big, time_parts}
 use Rattle.duration.specs.declared.DurationTimeParts.{DurationTimeParts}
-use Rattle.parts.specs.declared.Part.{Part}
+use Rattle.duration.specs.declared.ClockParts.{ClockParts}
 use Rattle.parts.specs.declared.Tried.{Tried}
 use Rattle.parts.specs.declared.Item.{Item}
-use Rattle.parts.specs.declared.Item.TheVariants as item
+use Rattle.std.specs.declared.result.Result.{Result}
+use Rattle.types.specs.Numbers.{number_of}
+use Rattle.std.specs.declared.result.Result.TheVariants.{Ok, Err}
+use Rattle.parser.specs.declared.Miss.{Miss}
+use Rattle.parser.specs.declared.Miss.TheVariants as miss
 use Rattle.parts.proofs.Items.{no_letter, tried_part, tried_item}
 use Rattle.duration.proofs.Items.{Heeds, part_heeds, optional_part, last_part, map_pick, further}
 use Rattle.duration.proofs.Laws.{clock, from_seconds, from_minutes, base_time_eager}
@@ -30,11 +32,11 @@ or_lt a b c t ab bc e = go (ltb a b) refl
     go false h = let same : b ≡ a = omega (arith, ltb-false a b h) in rw same at e
 
 -- one is there, and an absent one is 0
-kept_time : (i : Item) (t : TimeParts) (n : ℕ) → map_found time_of (keep some_time (unless_too_big i (got t n))) ≡ unless_too_big i (pick (some_time t) (got (time_of t) n) no)
-kept_time (item.Number v b k) t n = sym (map_pick time_of (some_time t) t n)
-kept_time item.TooBig t n = refl
-kept_time item.Wrong t n = sym (map_pick time_of (some_time t) t n)
-kept_time item.Cut t n = sym (map_pick time_of (some_time t) t n)
+kept_time : (i : Result Item Miss) (t : TimeParts) (n : ℕ) → map_found time_of (keep some_time (unless_too_big i (got t n))) ≡ unless_too_big i (pick (some_time t) (got (time_of t) n) no)
+kept_time (Ok i) t n = sym (map_pick time_of (some_time t) t n)
+kept_time (Err (miss.Stopped r)) t n = refl
+kept_time (Err miss.Wrong) t n = sym (map_pick time_of (some_time t) t n)
+kept_time (Err miss.Cut) t n = sym (map_pick time_of (some_time t) t n)
 
 abbrev after_h : List ℕ → ℕ → ℕ
 after_h s at = past 72 at (item_at s at)
@@ -42,7 +44,7 @@ after_h s at = past 72 at (item_at s at)
 abbrev after_m : List ℕ → ℕ → ℕ
 after_m s at = past 77 (after_h s at) (item_at s (after_h s at))
 
-base_time_lem : (s : List ℕ) (at : ℕ) → Says duration_base_time s at (unless_too_big (item_at s (after_m s at)) (time_parts at (part_at s at 72) (part_at s (after_h s at) 77) (part_at s (after_m s at) 83))) (is_cut (item_at s (after_m s at)))
+base_time_lem : (s : List ℕ) (at : ℕ) → Says duration_base_time s at (unless_too_big (item_at s (after_m s at)) (time_parts at (record { hours = part_at s at 72; minutes = part_at s (after_h s at) 77; seconds = part_at s (after_m s at) 83 }))) (is_cut (item_at s (after_m s at)))
 unfolding duration_base_time
 base_time_lem s at =
     let mat = after_h s at in
@@ -63,73 +65,31 @@ base_time_lem s at =
     let some : some_time t ≡ ltb at end = rw (hf.there, mf.there, xf.there) (or_lt at mat end _ hf.order (omega arith) (or_lt mat sat end _ mf.order xf.order refl)) in
     record { found = sym (kept_time (item_at s sat) t end ∙ rw some) ∙ whole.found; more = whole.more }
 
--- a part that is not there is absent
-part_absent : (at : ℕ) (i : Item) → present (here 83 i) ≡ false → part_by i at 83 ≡ absent_part at
-part_absent at (item.Number v b n) e = letter (eqb b 83) e
-  where
-    letter : (t : Bool) → present (pick t (some v) none) ≡ false → part_of (or_zero (pick t (some v) none)) (pick t n at) ≡ absent_part at
-    letter true e = absurd (true≢false e)
-    letter false e = refl
-part_absent at item.TooBig e = refl
-part_absent at item.Wrong e = refl
-part_absent at item.Cut e = refl
+-- H, M and S, each from the place that the one before it left
+pub record ClockAt (s : List ℕ) (at : ℕ) (c : ClockParts) : Type 0 where
+  pub hours : c.hours ≡ part_at s at 72
+  pub minutes : c.minutes ≡ part_at s c.hours.next 77
+  pub seconds : c.seconds ≡ part_at s c.minutes.next 83
 
-module _ (s : List ℕ) (at : ℕ) (h m x : Part) (eh : h ≡ part_at s at 72) (em : m ≡ part_at s h.next 77) (ex : x ≡ part_at s m.next 83) where
-  time_made : Says duration_base_time s at (unless_too_big (item_at s m.next) (time_parts at h m x)) (is_cut (item_at s m.next))
-  time_made = rw (ex, em, eh) (base_time_lem s at)
-
-  in_order : at ≤ m.next
-  in_order =
-      let a : at ≤ h.next = rw eh (further 72 s at).order in
-      let b : h.next ≤ m.next = rw em (further 77 s h.next).order in
-      omega arith
-
-  pub with_seconds : m.next < x.next → Says duration_base_time s at (got (record { hours = h.value; minutes = m.value; seconds = x.value }) x.next) false
-  with_seconds lt = go (item_at s m.next) (rw ex at lt) time_made
-    where
-      beyond : ltb at x.next ≡ true
-      beyond = lt-ltb at x.next (omega (arith, in_order))
-
-      go : (i : Item) → m.next < past 83 m.next i → Says duration_base_time s at (unless_too_big i (time_parts at h m x)) (is_cut i) → Says duration_base_time s at (got (record { hours = h.value; minutes = m.value; seconds = x.value }) x.next) false
-      go (item.Number v b n) l k = rw beyond at k
-      go item.TooBig l k = absurd (omega arith)
-      go item.Wrong l k = absurd (omega arith)
-      go item.Cut l k = absurd (omega arith)
-
-  pub without_seconds : x.next ≤ m.next → Says duration_base_time s at (unless_too_big (item_at s m.next) (time_parts at h m (absent_part m.next))) (is_cut (item_at s m.next))
-  without_seconds le =
-      let l : past 83 m.next (item_at s m.next) ≤ m.next = rw ex at le in
-      let none_there : x ≡ absent_part m.next = ex ∙ part_absent m.next (item_at s m.next) ((further 83 s m.next).there ∙ le-ltb _ _ l) in
-      rw none_there at time_made
+pub time_made : (s : List ℕ) (at : ℕ) (c : ClockParts) → ClockAt s at c → Says duration_base_time s at (unless_too_big (item_at s c.minutes.next) (time_parts at c)) (is_cut (item_at s c.minutes.next))
+time_made s at c e = rw (e.seconds, e.minutes, e.hours) (base_time_lem s at)
 
 -- the same of parts that were tried by items
-module _ (s : List ℕ) (at : ℕ) (i : Item) (h m x : Tried) (stands : i ≡ item_at s at) (hours : Tries s at 72 i h) (minutes : Tries s h.part.next 77 h.item m) (seconds : Tries s m.part.next 83 m.item x) where
-  behind_hours : h.item ≡ item_at s h.part.next
-  behind_hours = tried_item s at 72 i h hours stands
-
-  behind_minutes : m.item ≡ item_at s m.part.next
-  behind_minutes = tried_item s h.part.next 77 h.item m minutes behind_hours
-
-  hour : h.part ≡ part_at s at 72
-  hour = tried_part s at 72 i h hours stands
-
-  minute : m.part ≡ part_at s h.part.next 77
-  minute = tried_part s h.part.next 77 h.item m minutes behind_hours
-
-  second : x.part ≡ part_at s m.part.next 83
-  second = tried_part s m.part.next 83 m.item x seconds behind_minutes
-
-  pub with_seconds_tried : m.part.next < x.part.next → Says duration_base_time s at (got (record { hours = h.part.value; minutes = m.part.value; seconds = x.part.value }) x.part.next) false
-  with_seconds_tried = with_seconds s at h.part m.part x.part hour minute second
-
-  pub without_seconds_tried : x.part.next ≤ m.part.next → Says duration_base_time s at (unless_too_big m.item (time_parts at h.part m.part (absent_part m.part.next))) (is_cut m.item)
-  without_seconds_tried le = rw behind_minutes (without_seconds s at h.part m.part x.part hour minute second le)
+pub time_tried : (s : List ℕ) (at : ℕ) (i : Result Item Miss) (h m x : Tried) → i ≡ item_at s at → Tries s at 72 i h → Tries s h.part.next 77 h.item m → Tries s m.part.next 83 m.item x → Says duration_base_time s at (unless_too_big m.item (time_parts at (record { hours = h.part; minutes = m.part; seconds = x.part }))) (is_cut m.item)
+time_tried s at i h m x stands hours minutes seconds =
+    let behind_hours = tried_item s at 72 i h hours stands in
+    let behind_minutes = tried_item s h.part.next 77 h.item m minutes behind_hours in
+    rw behind_minutes (time_made s at _ (record {
+      hours = tried_part s at 72 i h hours stands;
+      minutes = tried_part s h.part.next 77 h.item m minutes behind_hours;
+      seconds = tried_part s m.part.next 83 m.item x seconds behind_minutes;
+    }))
 
 base_heeds : (s : List ℕ) (at : ℕ) → Heeds duration_base_time s at
 unfolding duration_base_time map verify
 base_heeds s at =
     let h = part_heeds 72 from_minutes s at in
-    record { stops = λ e. says_map _ s at time_of _ false (says_verify _ s at some_time _ false (h.stops e)); opens = h.opens }
+    record { stops = λ r e. says_map _ s at time_of _ false (says_verify _ s at some_time _ false (h.stops r e)); opens = h.opens }
 
 -- ---- the time, with its `T` and without
 
@@ -144,10 +104,10 @@ time_at_lem = says_past 84 duration_base_time base_time_eager
 
 pub time_heeds : (s : List ℕ) (at : ℕ) → Heeds duration_time s at
 time_heeds s at = record {
-  stops = λ e. here (stop 2) false (λ w. let z : ◌≡◌ {A = ℕ} 0 1 = cc in omega arith) ((base_heeds s at).stops e);
-  opens = λ e. sym (here _ true (λ w. let z : ◌≡◌ {A = ℕ} 0 1 = cc in omega arith) (record { found = refl; more = sym ((base_heeds s at).opens e) })).more;
+  stops = λ r e. here (stop (number_of r)) false (λ w. cc) ((base_heeds s at).stops r e);
+  opens = λ e. sym (here _ true (λ w. cc) (record { found = refl; more = sym ((base_heeds s at).opens e) })).more;
 }
   where
     -- no `T` stands where a run does, or the end
-    here : (f : Found DurationTimeParts) (m : Bool) → (item_at s at ≡ item.Wrong → ⊥) → Says duration_base_time s at f m → Says duration_time s at f m
+    here : (f : Found DurationTimeParts) (m : Bool) → (item_at s at ≡ Err miss.Wrong → ⊥) → Says duration_base_time s at f m → Says duration_time s at f m
     here f m no_byte k = time_at_lem s at at f m (rw (no_letter 84 s at refl no_byte)) k

@@ -1,17 +1,25 @@
 -- What the code makes of Y, M, W, D and the time is what the rule reads, `P` and all.
-use Rattle.std.proofs.Common.{◌≡◌, ℕ, ◌<◌, ◌≤◌, Bool, false, ltb, List, sym, refl, ◌∙◌, arith, le-ltb}
+use Rattle.std.proofs.Common.{◌≡◌, ℕ, ◌<◌, ◌≤◌, Bool, true, false, ltb, List, sym, refl, ◌∙◌, arith, le-ltb, lt-ltb}
 use mathlib.Core.Option.{Option, some, none}
 use Rattle.types.specs.declared.Duration.{Duration}
 use Rattle.parser.specs.Reading.{Found, no, got, stop, lit, seq, opt, lack, verify, keep, map, map_found, give, or, Says}
 use Rattle.parser.proofs.Says.{says_map, says_verify, says_opt, says_seq_got, says_seq_no, says_seq_stop}
 use Rattle.parser.specs.Fields.{or_zero}
-use Rattle.duration.specs.Rules.{present, duration_base_time, duration_time, parts_rule, some_part, duration_of, duration}
+use Rattle.duration.specs.Rules.{present, duration_time, parts_rule, some_part, duration_of, duration}
 use Rattle.parts.specs.Items.{item_at, here, past, part_of, absent_part, part_at, Tries}
-use Rattle.duration.specs.Items.{is_cut, time_parts, behind_p, record_of, all_parts}
-use Rattle.duration.specs.Looks.{long_run, no_part, Short, Starts, DateParts}
+use Rattle.duration.specs.Items.{is_cut, record_of, time_of, time_parts, behind_p, all_parts}
+use Rattle.duration.specs.Looks.{long_run, no_part, Looks, Short, Starts, DateAt}
 use Rattle.duration.specs.declared.DurationTimeParts.{DurationTimeParts}
+use Rattle.duration.specs.declared.DateParts.{DateParts}
+use Rattle.duration.specs.declared.ClockParts.{ClockParts}
 use Rattle.duration.specs.declared.Looked.{Looked}
 use Rattle.duration.specs.declared.Start.{Start}
+use Rattle.std.specs.declared.result.Result.{Result}
+use Rattle.std.specs.declared.result.Result.TheVariants.{Ok, Err}
+use Rattle.types.specs.Numbers.{number_of}
+use Rattle.parser.specs.Read.{missed, cut}
+use Rattle.parser.specs.declared.Miss.{Miss}
+use Rattle.parser.specs.declared.Miss.TheVariants as miss
 use Rattle.parts.specs.declared.Item.{Item}
 use Rattle.parts.specs.declared.Part.{Part}
 use Rattle.parts.specs.declared.Tried.{Tried}
@@ -19,7 +27,7 @@ use Rattle.parts.proofs.Items.{tried_part, tried_item}
 use Rattle.duration.proofs.Items.{Heeds, part_heeds, optional_part, map_pick, further}
 use Rattle.duration.proofs.Laws.{or_true, parts, from_time, from_days, from_weeks, from_months}
 use Rattle.duration.proofs.Looks.{look_stands, look_absent}
-use Rattle.duration.proofs.Reading.{or_false, or_lt, with_seconds, without_seconds, time_at_lem, time_heeds}
+use Rattle.duration.proofs.Reading.{or_false, or_lt, ClockAt, time_made, time_at_lem, time_heeds}
 
 -- ---- the optional time at the end
 
@@ -33,13 +41,16 @@ module _ (y mo w d : Option ℕ) (s : List ℕ) (at : ℕ) where
   the_time_heeds : Heeds (from_time y mo w d) s at
   unfolding seq opt
   the_time_heeds = record {
-    stops = λ e. says_seq_stop (opt duration_time) s at (λ t. give (parts y mo w d t)) 2 false (says_opt duration_time s at (stop 2) false ((time_heeds s at).stops e));
+    stops = λ r e. says_seq_stop (opt duration_time) s at (λ t. give (parts y mo w d t)) (number_of r) false (says_opt duration_time s at (stop (number_of r)) false ((time_heeds s at).stops r e));
     opens = λ e. rw ((time_heeds s at).opens e);
   }
 
 -- ---- one part is given, and an absent one is 0
 
-kept_parts : (at i j k n : ℕ) (y mo w d : Option ℕ) → or (present y) (or (present mo) (or (present w) (present d))) ≡ ltb at n → (f : Found DurationTimeParts) → map_found duration_of (keep some_part (map_found (parts y mo w d) (lack n f))) ≡ all_parts at (part_of (or_zero y) i) (part_of (or_zero mo) j) (part_of (or_zero w) k) (part_of (or_zero d) n) f
+abbrev date : Part → Part → Part → Part → DateParts
+date y mo w d = record { years = y; months = mo; weeks = w; days = d }
+
+kept_parts : (at i j k n : ℕ) (y mo w d : Option ℕ) → or (present y) (or (present mo) (or (present w) (present d))) ≡ ltb at n → (f : Found DurationTimeParts) → map_found duration_of (keep some_part (map_found (parts y mo w d) (lack n f))) ≡ all_parts at (date (part_of (or_zero y) i) (part_of (or_zero mo) j) (part_of (or_zero w) k) (part_of (or_zero d) n)) f
 kept_parts at i j k n y mo w d e no = rw (or_false (present d), e) (sym (map_pick duration_of (ltb at n) (parts y mo w d none) n))
 kept_parts at i j k n y mo w d e (stop r) = refl
 kept_parts at i j k n y mo w d e (got t x) = rw (or_true (present d), or_true (present w), or_true (present mo), or_true (present y))
@@ -58,7 +69,7 @@ after_w s at = past 87 (after_mo s at) (item_at s (after_mo s at))
 abbrev after_d : List ℕ → ℕ → ℕ
 after_d s at = past 68 (after_w s at) (item_at s (after_w s at))
 
-all_parts_lem : (s : List ℕ) (at : ℕ) (f : Found DurationTimeParts) (m : Bool) → Says duration_time s (after_d s at) f m → Says behind_p s at (all_parts at (part_at s at 89) (part_at s (after_y s at) 77) (part_at s (after_mo s at) 87) (part_at s (after_w s at) 68) f) m
+all_parts_lem : (s : List ℕ) (at : ℕ) (f : Found DurationTimeParts) (m : Bool) → Says duration_time s (after_d s at) f m → Says behind_p s at (all_parts at (date (part_at s at 89) (part_at s (after_y s at) 77) (part_at s (after_mo s at) 87) (part_at s (after_w s at) 68)) f) m
 unfolding parts_rule
 all_parts_lem s at f m k =
     let mat = after_y s at in
@@ -82,12 +93,12 @@ all_parts_lem s at f m k =
     let some : or (present y) (or (present mo) (or (present w) (present d))) ≡ ltb at tat = rw (yf.there, mf.there, wf.there, df.there) (or_lt at mat tat _ yf.order (omega arith) (or_lt mat wat tat _ mf.order (omega arith) (or_lt wat dat tat _ wf.order df.order refl))) in
     record { found = sym (kept_parts at mat wat dat tat y mo w d some f) ∙ whole.found; more = whole.more }
 
-pub parts_made : (s : List ℕ) (at : ℕ) (y mo w d : Part) (f : Found DurationTimeParts) (m : Bool) (g : Found Duration) → DateParts s at y mo w d → Says duration_time s d.next f m → g ≡ all_parts at y mo w d f → Says behind_p s at g m
-parts_made s at y mo w d f m g e k eg = rw (eg, e.days, e.weeks, e.months, e.years) (all_parts_lem s at f m (rw (e.days, e.weeks, e.months, e.years) at k))
+pub parts_made : (s : List ℕ) (at : ℕ) (d : DateParts) (f : Found DurationTimeParts) (m : Bool) (g : Found Duration) → DateAt s at d → Says duration_time s d.days.next f m → g ≡ all_parts at d f → Says behind_p s at g m
+parts_made s at d f m g e k eg = rw (eg, e.days, e.weeks, e.months, e.years) (all_parts_lem s at f m (rw (e.days, e.weeks, e.months, e.years) at k))
 
 -- ---- the parts in front of the time, as they were tried by items
 
-module _ (s : List ℕ) (at : ℕ) (i : Item) (y mo w d : Tried) (stands : i ≡ item_at s at) (years : Tries s at 89 i y) (months : Tries s y.part.next 77 y.item mo) (weeks : Tries s mo.part.next 87 mo.item w) (days : Tries s w.part.next 68 w.item d) where
+module _ (s : List ℕ) (at : ℕ) (i : Result Item Miss) (y mo w d : Tried) (stands : i ≡ item_at s at) (years : Tries s at 89 i y) (months : Tries s y.part.next 77 y.item mo) (weeks : Tries s mo.part.next 87 mo.item w) (days : Tries s w.part.next 68 w.item d) where
   behind_years : y.item ≡ item_at s y.part.next
   behind_years = tried_item s at 89 i y years stands
 
@@ -97,10 +108,7 @@ module _ (s : List ℕ) (at : ℕ) (i : Item) (y mo w d : Tried) (stands : i ≡
   behind_weeks : w.item ≡ item_at s w.part.next
   behind_weeks = tried_item s mo.part.next 87 mo.item w weeks behind_months
 
-  pub behind_days : d.item ≡ item_at s d.part.next
-  behind_days = tried_item s w.part.next 68 w.item d days behind_weeks
-
-  pub date_tried : DateParts s at y.part mo.part w.part d.part
+  pub date_tried : DateAt s at (date y.part mo.part w.part d.part)
   date_tried = record {
     years = tried_part s at 89 i y years stands;
     months = tried_part s y.part.next 77 y.item mo months behind_years;
@@ -111,7 +119,7 @@ module _ (s : List ℕ) (at : ℕ) (i : Item) (y mo w d : Tried) (stands : i ≡
 -- ---- the same by looks
 
 module _ (s : List ℕ) (at l : ℕ) (y mo w d : Looked) (years : Short s at 89 l y) (months : Short s y.part.next 77 y.look mo) (weeks : Short s mo.part.next 87 mo.look w) (days : Short s w.part.next 68 w.look d) where
-  pub date_made : (d.look ≡ long_run → ⊥) → DateParts s at y.part mo.part w.part d.part
+  pub date_made : (d.look ≡ long_run → ⊥) → DateAt s at (date y.part mo.part w.part d.part)
   date_made n =
       let short-w : w.look ≡ long_run → ⊥ = λ q. n (days.long q).0 in
       let short-mo : mo.look ≡ long_run → ⊥ = λ q. short-w (weeks.long q).0 in
@@ -123,38 +131,46 @@ module _ (s : List ℕ) (at l : ℕ) (y mo w d : Looked) (years : Short s at 89 
         days = days.part short-w;
       }
 
-module _ (s : List ℕ) (at : ℕ) (y mo w d : Part) (l : ℕ) (date : (l ≡ long_run → ⊥) → DateParts s at y mo w d) (st : Start) (begins : Starts s d.next l st) where
+module _ (s : List ℕ) (at : ℕ) (d : DateParts) (l : ℕ) (there : (l ≡ long_run → ⊥) → DateAt s at d) (st : Start) (begins : Starts s d.days.next l st) where
+  -- the time by the parts there, where no long run stands
+  timed : (st.look ≡ long_run → ⊥) → (c : ClockParts) → ClockAt s st.next c → (k : ℕ) → (k ≡ long_run → ⊥) → Looks s c.minutes.next k → (g : Found Duration) → g ≡ all_parts at d (time_parts st.next c) → Says behind_p s at g (is_cut (item_at s c.minutes.next))
+  timed short c e k short-k looks g eg =
+      let base = rw ((look_stands s c.minutes.next k short-k looks).small _) at (time_made s st.next c e) in
+      parts_made s at d _ _ g (there (λ q. short (begins.long q))) (time_at_lem s d.days.next st.next _ _ begins.next base) eg
+
   -- no part of a time
-  pub without_time : (g : Found Duration) → st.look ≡ no_part → g ≡ all_parts at y mo w d no → Says behind_p s at g (is_cut (item_at s st.next))
+  pub without_time : (g : Found Duration) → st.look ≡ no_part → g ≡ all_parts at d no → Says behind_p s at g (is_cut (item_at s st.next))
   without_time g e eg =
       let from = st.next in
       let short : st.look ≡ long_run → ⊥ = λ q. omega arith in
       let absent : (c : ℕ) → c < 256 → absent_part from ≡ part_at s from c = λ c small. sym (look_absent s from st.look short c begins.behind (λ q. absurd (omega arith)) (λ q. omega arith)) in
-      let k = without_seconds s from (absent_part from) (absent_part from) (absent_part from) (absent 72 (omega arith)) (absent 77 (omega arith)) (absent 83 (omega arith)) (omega arith) in
       let same : ltb from from ≡ false = le-ltb from from (omega arith) in
-      let none_there : Says duration_base_time s from no (is_cut (item_at s from)) = rw ((look_stands s from st.look short begins.behind).small _, same) at k in
-      parts_made s at y mo w d no _ g (date (λ q. short (begins.long q))) (time_at_lem s d.next from no _ begins.next none_there) eg
+      let none_there : ClockParts = record { hours = absent_part from; minutes = absent_part from; seconds = absent_part from } in
+      timed short none_there (record { hours = absent 72 (omega arith); minutes = absent 77 (omega arith); seconds = absent 83 (omega arith) }) st.look short begins.behind g (rw same eg)
 
-  module _ (h m x : Looked) (hour : Short s st.next 72 st.look h) (minute : Short s h.part.next 77 h.look m) (second : Short s m.part.next 83 m.look x) where
-    module _ (short : m.look ≡ long_run → ⊥) where
-      short_hour : h.look ≡ long_run → ⊥
-      short_hour q = short (minute.long q).0
+  -- some parts of a time, none of them long
+  pub with_time : (h m x : Looked) → Short s st.next 72 st.look h → Short s h.part.next 77 h.look m → Short s m.part.next 83 m.look x → (m.look ≡ long_run → ⊥) → (g : Found Duration) → g ≡ all_parts at d (time_parts st.next (record { hours = h.part; minutes = m.part; seconds = x.part })) → Says behind_p s at g (is_cut (item_at s m.part.next))
+  with_time h m x hour minute second short g eg =
+      let short-hour : h.look ≡ long_run → ⊥ = λ q. short (minute.long q).0 in
+      let short-start : st.look ≡ long_run → ⊥ = λ q. short-hour (hour.long q).0 in
+      timed short-start _ (record { hours = hour.part short-start; minutes = minute.part short-hour; seconds = second.part short }) m.look short minute.behind g eg
 
-      short_start : st.look ≡ long_run → ⊥
-      short_start q = short_hour (hour.long q).0
-
-      timed : (f : Found DurationTimeParts) (o : Bool) (g : Found Duration) → Says duration_base_time s st.next f o → g ≡ all_parts at y mo w d f → Says behind_p s at g o
-      timed f o g k eg = parts_made s at y mo w d f o g (date (λ q. short_start (begins.long q))) (time_at_lem s d.next st.next f o begins.next k) eg
-
-      pub without_second : (g : Found Duration) → x.part.next ≤ m.part.next → g ≡ all_parts at y mo w d (time_parts st.next h.part m.part (absent_part m.part.next)) → Says behind_p s at g (is_cut (item_at s m.part.next))
-      without_second g le eg =
-          let k = without_seconds s st.next h.part m.part x.part (hour.part short_start) (minute.part short_hour) (second.part short) le in
-          timed _ _ g (rw ((look_stands s m.part.next m.look short minute.behind).small _) at k) eg
-
-    pub with_second : (v : Duration) → m.part.next < x.part.next → v ≡ record_of y mo w d (record { hours = h.part.value; minutes = m.part.value; seconds = x.part.value }) → Says behind_p s at (got v x.part.next) false
-    with_second v lt ev =
-        let short : m.look ≡ long_run → ⊥ = λ q. omega (arith, (second.long q).1) in
-        timed short _ _ _ (with_seconds s st.next h.part m.part x.part (hour.part (short_start short)) (minute.part (short_hour short)) (second.part short) lt) (rw ev)
+  -- with S: no run in front of it is long, and the input did not end there
+  pub with_seconds : (h m x : Looked) → Short s st.next 72 st.look h → Short s h.part.next 77 h.look m → Short s m.part.next 83 m.look x → m.part.next < x.part.next → Says behind_p s at (got (record_of d (time_of (record { hours = h.part; minutes = m.part; seconds = x.part }))) x.part.next) false
+  with_seconds h m x hour minute second lt =
+      let short : m.look ≡ long_run → ⊥ = λ q. omega (arith, (second.long q).1) in
+      let short-hour : h.look ≡ long_run → ⊥ = λ q. short (minute.long q).0 in
+      let hours = hour.part (λ q. short-hour (hour.long q).0) in
+      let minutes = minute.part short-hour in
+      let seconds = second.part short in
+      let beyond-hour : st.next ≤ h.part.next = rw hours (further 72 s st.next).order in
+      let beyond-minute : h.part.next ≤ m.part.next = rw minutes (further 77 s h.part.next).order in
+      let beyond : ltb st.next x.part.next ≡ true = lt-ltb st.next x.part.next (omega arith) in
+      rw (← closed (item_at s m.part.next) (rw seconds at lt)) (with_time h m x hour minute second short _ (rw beyond))
+    where
+      closed : (i : Result Item Miss) → m.part.next < past 83 m.part.next i → is_cut i ≡ false
+      closed (Ok i) lt = refl
+      closed (Err e) lt = absurd (omega arith)
 
 -- ---- `P`
 
@@ -165,3 +181,10 @@ with_p s at n u f m p k = record { found = rw (← p.found) k.found; more = rw (
 pub without_p : (s : List ℕ) (at : ℕ) (m : Bool) → Says (lit 80) s at no m → Says duration s at no m
 unfolding duration
 without_p s at m p = says_map _ s at duration_of no m (says_verify _ s at some_part no m (says_seq_no (lit 80) s at (λ _. parts_rule) m p))
+
+-- ... and wherever it is missed, the miss is passed on
+pub missed_p : (s : List ℕ) (at : ℕ) (m : Miss) → Says (lit 80) s at (missed m) (cut m) → Says duration s at (missed m) (cut m)
+unfolding duration
+missed_p s at miss.Wrong p = without_p s at false p
+missed_p s at miss.Cut p = without_p s at true p
+missed_p s at (miss.Stopped why) p = says_map _ s at duration_of _ false (says_verify _ s at some_part _ false (says_seq_stop (lit 80) s at (λ _. parts_rule) (number_of why) false p))

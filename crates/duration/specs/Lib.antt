@@ -1,4 +1,3 @@
 pub mod Rules
-pub mod Answer
 pub mod Items
 pub mod Looks

@@ -3,9 +3,10 @@ use Rattle.std.specs.Prelude.{◌≡◌, ℕ, ◌+◌, ◌<◌, ◌≤◌, true,
 use Rattle.parser.specs.Reading.{lit}
 use Rattle.parser.specs.Read.{place_after}
 use Rattle.parser.specs.Digits.{is_digit, digit}
-use Rattle.parts.specs.declared.Item.TheVariants as item
-use Rattle.parts.specs.declared.Part.{Part}
+use Rattle.std.specs.declared.result.Result.TheVariants.{Err}
+use Rattle.parser.specs.declared.Miss.TheVariants as miss
 use Rattle.parts.specs.Items.{item_at, part_at}
+use Rattle.duration.specs.declared.DateParts.{DateParts}
 use Rattle.duration.specs.declared.Looked.{Looked}
 use Rattle.duration.specs.declared.Start.{Start}
 
@@ -18,7 +19,7 @@ no_part = 513
 
 pub data Looks (s : List ℕ) (at l : ℕ) : Type 0 where
   -- no digit stands there, or the input ends behind digits
-  none : l ≡ no_part → (digit s at ≡ true → item_at s at ≡ item.Cut) → Looks s at l
+  none : l ≡ no_part → (digit s at ≡ true → item_at s at ≡ Err miss.Cut) → Looks s at l
   -- the second byte is no digit; the first may be one
   one : l ≡ slice_index s (at + 1) → l < 256 → at + 2 ≤ length s → is_digit (slice_index s (at + 1)) ≡ false → Looks s at l
   -- two digits
@@ -39,8 +40,8 @@ pub record Starts (s : List ℕ) (at l : ℕ) (r : Start) : Type 0 where
   pub long : l ≡ long_run → r.look ≡ long_run
 
 -- Y, M, W and D, each from the place that the one before it left
-pub record DateParts (s : List ℕ) (at : ℕ) (y mo w d : Part) : Type 0 where
-  pub years : y ≡ part_at s at 89
-  pub months : mo ≡ part_at s y.next 77
-  pub weeks : w ≡ part_at s mo.next 87
-  pub days : d ≡ part_at s w.next 68
+pub record DateAt (s : List ℕ) (at : ℕ) (d : DateParts) : Type 0 where
+  pub years : d.years ≡ part_at s at 89
+  pub months : d.months ≡ part_at s d.years.next 77
+  pub weeks : d.weeks ≡ part_at s d.months.next 87
+  pub days : d.days ≡ part_at s d.weeks.next 68

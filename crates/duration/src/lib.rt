@@ -2,15 +2,15 @@
 // again from its beginning, run by run.
 #![tactic(auto)]
 
-ghost use Rattle.std.specs.Prelude.{◌≡◌, ◌+◌, ◌<◌, ◌≤◌, length, ◌≢◌, slice_index};
-ghost use Rattle.parser.specs.Reading.{no, Says};
+ghost use Rattle.std.specs.Prelude.{◌≡◌, ◌+◌, ◌<◌, ◌≤◌, length, ◌≢◌, slice_index, nat_lt};
+ghost use Rattle.parser.specs.Reading.{no, got, pick, Says};
+ghost use Rattle.parser.specs.Read.{got_found, got_more};
 ghost use Rattle.duration.specs.Rules.{duration_base_time, duration_time, duration};
-ghost use Rattle.duration.specs.Answer.{time_found, time_more, duration_found, duration_more};
-ghost use Rattle.parts.specs.Items.{item_at, absent_part};
-ghost use Rattle.duration.specs.Items.{is_cut, unless_too_big, time_parts, behind_p, record_of, all_parts};
-ghost use Rattle.duration.specs.Looks.{long_run, Looks, Short, Starts, DateParts};
+ghost use Rattle.parts.specs.Items.{item_at};
+ghost use Rattle.duration.specs.Items.{is_cut, unless_too_big, time_of, time_parts, behind_p, record_of, all_parts};
+ghost use Rattle.duration.specs.Looks.{long_run, Looks, Short, Starts, DateAt};
 
-use parser::Mark;
+use parser::{Found, Got, Miss};
 use parts::{Item, Part};
 use types::Duration;
 
@@ -22,210 +22,166 @@ pub struct DurationTimeParts {
     pub seconds: u64,
 }
 
-// What the time portion finds. `more`: the input ended where a byte more could still matter.
+// The parts Y, M, W and D, each tried at the place that the one before it left.
 #[derive(Clone, Copy)]
-enum TimeFound {
-    Got {
-        value: DurationTimeParts,
-        next: usize,
-        more: bool,
-    },
-    TooBig,
-    Wrong,
-    Cut,
+struct DateParts {
+    years: Part,
+    months: Part,
+    weeks: Part,
+    days: Part,
 }
 
-// What reading at a place finds. `more`: the input ended where a byte more could still matter. TooBig: a part's number is above
-// the limit. Wrong: nothing, whatever follows. Cut: nothing yet, but the input ended where it could still come right.
+// The parts H, M and S, likewise.
 #[derive(Clone, Copy)]
-pub enum DurationFound {
-    Got {
-        value: Duration,
-        next: usize,
-        more: bool,
-    },
-    TooBig,
-    Wrong,
-    Cut,
+struct ClockParts {
+    hours: Part,
+    minutes: Part,
+    seconds: Part,
 }
 
-// What the parts H and M from a place on make without S: at least one is there.
-fn some_time(at: usize, h: Part, m: Part, more: bool) -> TimeFound
-    ensures found { time_found result ≡ time_parts at h m (absent_part m.next) }
-    ensures more { time_more result ≡ more }
+// What parts from a place on make, by the place behind them: at least one is there, and so they end further on.
+fn found_parts<T: Copy>(at: usize, next: usize, value: T, more: bool) -> Found<T>
+    ensures found { got_found result ≡ pick (nat_lt at next) (got value next) no }
+    ensures more { got_more result ≡ more }
 {
-    let end = m.next;
-    if at < end {
-        let value = DurationTimeParts {
-            hours: h.value,
-            minutes: m.value,
-            seconds: 0,
-        };
-        return TimeFound::Got {
-            value,
-            next: end,
-            more,
-        };
+    if at < next {
+        return Ok(Got { value, next, more });
     }
-    if more {
-        TimeFound::Cut
-    } else {
-        TimeFound::Wrong
+    Err(if more { Miss::Cut } else { Miss::Wrong })
+}
+
+// The time of the parts; an absent one is 0.
+fn time_of(clock: ClockParts) -> DurationTimeParts
+    ensures { result ≡ time_of clock }
+{
+    DurationTimeParts {
+        hours: clock.hours.value,
+        minutes: clock.minutes.value,
+        seconds: clock.seconds.value,
     }
+}
+
+// What the parts of a time from a place on make.
+fn some_time(at: usize, clock: ClockParts, more: bool) -> Found<DurationTimeParts>
+    ensures found { got_found result ≡ time_parts at clock }
+    ensures more { got_more result ≡ more }
+{
+    found_parts(at, clock.seconds.next, time_of(clock), more)
 }
 
 // The same, by what stands where S was tried.
-fn time_parts(at: usize, h: Part, m: Part, last: Item) -> TimeFound
-    ensures found { time_found result ≡ unless_too_big last (time_parts at h m (absent_part m.next)) }
-    ensures more { time_more result ≡ is_cut last }
+fn time_parts(at: usize, clock: ClockParts, last: Result<Item, Miss>) -> Found<DurationTimeParts>
+    ensures found { got_found result ≡ unless_too_big last (time_parts at clock) }
+    ensures more { got_more result ≡ is_cut last }
 {
     match last {
-        Item::Number {
-            value: _,
-            letter: _,
-            next: _,
-        } => some_time(at, h, m, false),
-        Item::TooBig => TimeFound::TooBig,
-        Item::Wrong => some_time(at, h, m, false),
-        Item::Cut => some_time(at, h, m, true),
+        Ok(_) => some_time(at, clock, false),
+        Err(Miss::Stopped(too_big)) => Err(Miss::Stopped(too_big)),
+        Err(miss) => some_time(at, clock, miss.is_cut()),
     }
 }
 
 // [H][M][S], where it is known what stands at the place
-fn duration_base_time(s: &[u8], at: usize, item: Item) -> TimeFound
+fn duration_base_time(s: &[u8], at: usize, item: Result<Item, Miss>) -> Found<DurationTimeParts>
     requires { item ≡ item_at s.now at }
-    ensures { Says duration_base_time s.now at (time_found result) (time_more result) }
+    ensures { Says duration_base_time s.now at (got_found result) (got_more result) }
 {
-    let h = parts::duration_part(s, at, 72, item);
-    let hour = h.part;
-    let after_hour = h.item;
-    let m = parts::duration_part(s, hour.next, 77, after_hour);
-    let minute = m.part;
-    let last = m.item;
-    let before = minute.next;
-    let x = parts::duration_part(s, before, 83, last);
-    let second = x.part;
-    let next = second.next;
-    if before < next {
-        let value = DurationTimeParts {
-            hours: hour.value,
-            minutes: minute.value,
-            seconds: second.value,
-        };
-        return TimeFound::Got {
-            value,
-            next,
-            more: false,
-        };
-    }
-    time_parts(at, hour, minute, last)
+    let hours = parts::duration_part(s, at, b'H', item);
+    let minutes = parts::duration_part(s, hours.part.next, b'M', hours.item);
+    let seconds = parts::duration_part(s, minutes.part.next, b'S', minutes.item);
+    let clock = ClockParts {
+        hours: hours.part,
+        minutes: minutes.part,
+        seconds: seconds.part,
+    };
+    time_parts(at, clock, minutes.item)
 }
 
 // What stands where a time starts, by what stands where its `T` may.
-fn time_item(s: &[u8], at: usize, item: Item, from: usize) -> Item
+fn time_item(s: &[u8], at: usize, item: Result<Item, Miss>, from: usize) -> Result<Item, Miss>
     requires { item ≡ item_at s.now at }
     ensures { result ≡ item_at s.now from }
 {
     if from == at {
-        return item;
+        item
+    } else {
+        parts::duration_item(s, from)
     }
-    parts::duration_item(s, from)
 }
 
 // [T][H][M][S]: parses time portion of a duration
-fn duration_time(s: &[u8], at: usize, item: Item) -> TimeFound
+fn duration_time(s: &[u8], at: usize, item: Result<Item, Miss>) -> Found<DurationTimeParts>
     requires { item ≡ item_at s.now at }
-    ensures { Says duration_time s.now at (time_found result) (time_more result) }
+    ensures { Says duration_time s.now at (got_found result) (got_more result) }
 {
-    let from = parser::past(s, at, 84);
+    let from = parser::past(s, at, b'T');
     duration_base_time(s, from, time_item(s, at, item, from))
 }
 
 // The record of the parts; an absent one is 0.
-fn record_of(y: Part, mo: Part, w: Part, d: Part, time: DurationTimeParts) -> Duration
-    ensures { result ≡ record_of y mo w d time }
+fn record_of(date: DateParts, time: DurationTimeParts) -> Duration
+    ensures { result ≡ record_of date time }
 {
     Duration {
-        years: y.value,
-        months: mo.value,
-        weeks: w.value,
-        days: d.value,
+        years: date.years.value,
+        months: date.months.value,
+        weeks: date.weeks.value,
+        days: date.days.value,
         hours: time.hours,
         minutes: time.minutes,
         seconds: time.seconds,
     }
 }
 
-// What the parts Y, M, W and D from a place on make without a time: at least one is there.
-fn date_parts(at: usize, y: Part, mo: Part, w: Part, d: Part, more: bool) -> DurationFound
-    ensures found { duration_found result ≡ all_parts at y mo w d no }
-    ensures more { duration_more result ≡ more }
+// What the parts Y, M, W and D from a place on make without a time.
+fn date_parts(at: usize, date: DateParts, more: bool) -> Found<Duration>
+    ensures found { got_found result ≡ all_parts at date no }
+    ensures more { got_more result ≡ more }
 {
-    let next = d.next;
-    if at < next {
-        let time = DurationTimeParts {
-            hours: 0,
-            minutes: 0,
-            seconds: 0,
-        };
-        return DurationFound::Got {
-            value: record_of(y, mo, w, d, time),
-            next,
-            more,
-        };
-    }
-    if more {
-        DurationFound::Cut
-    } else {
-        DurationFound::Wrong
-    }
+    let time = DurationTimeParts {
+        hours: 0,
+        minutes: 0,
+        seconds: 0,
+    };
+    found_parts(at, date.days.next, record_of(date, time), more)
 }
 
 // What the parts Y, M, W and D from a place on make with what was found of a time behind them.
-fn all_parts(at: usize, y: Part, mo: Part, w: Part, d: Part, time: TimeFound) -> DurationFound
-    ensures found { duration_found result ≡ all_parts at y mo w d (time_found time) }
-    ensures more { duration_more result ≡ time_more time }
+fn all_parts(at: usize, date: DateParts, time: Found<DurationTimeParts>) -> Found<Duration>
+    ensures found { got_found result ≡ all_parts at date (got_found time) }
+    ensures more { got_more result ≡ got_more time }
 {
     match time {
-        TimeFound::Got { value, next, more } => DurationFound::Got {
-            value: record_of(y, mo, w, d, value),
-            next,
-            more,
-        },
-        TimeFound::TooBig => DurationFound::TooBig,
-        TimeFound::Wrong => date_parts(at, y, mo, w, d, false),
-        TimeFound::Cut => date_parts(at, y, mo, w, d, true),
+        Ok(time) => Ok(Got {
+            value: record_of(date, time.value),
+            next: time.next,
+            more: time.more,
+        }),
+        Err(Miss::Stopped(why)) => Err(Miss::Stopped(why)),
+        Err(miss) => date_parts(at, date, miss.is_cut()),
     }
 }
 
 // [Y][M][W][D][[T][H][M][S]], with runs of any length
-fn long_parts(s: &[u8], at: usize) -> DurationFound
-    ensures { Says behind_p s.now at (duration_found result) (duration_more result) }
+fn long_parts(s: &[u8], at: usize) -> Found<Duration>
+    ensures { Says behind_p s.now at (got_found result) (got_more result) }
 {
-    let y = parts::duration_part(s, at, 89, parts::duration_item(s, at));
-    let year = y.part;
-    let after_year = y.item;
-    let mo = parts::duration_part(s, year.next, 77, after_year);
-    let month = mo.part;
-    let after_month = mo.item;
-    let w = parts::duration_part(s, month.next, 87, after_month);
-    let week = w.part;
-    let after_week = w.item;
-    let d = parts::duration_part(s, week.next, 68, after_week);
-    let day = d.part;
-    let after_day = d.item;
-    all_parts(
-        at,
-        year,
-        month,
-        week,
-        day,
-        duration_time(s, day.next, after_day),
-    )
+    let years = parts::duration_part(s, at, b'Y', parts::duration_item(s, at));
+    let months = parts::duration_part(s, years.part.next, b'M', years.item);
+    let weeks = parts::duration_part(s, months.part.next, b'W', months.item);
+    let days = parts::duration_part(s, weeks.part.next, b'D', weeks.item);
+    let date = DateParts {
+        years: years.part,
+        months: months.part,
+        weeks: weeks.part,
+        days: days.part,
+    };
+    all_parts(at, date, duration_time(s, days.part.next, days.item))
 }
 
 // A look at a place tells of the part there in one number: the second byte, where that is no digit (the first may be none either); 256 more
 // than the third, behind two digits; LONG, where three digits stand; NONE, where no part does, or not yet.
+// Kept: numbers and no enum, since a part then compares its letter with the look at once; the bar is 200 instructions for `P1Y2M3DT4H5M6S`.
 const LONG: u32 = 512;
 
 const NONE: u32 = 513;
@@ -242,26 +198,19 @@ fn later_look(s: &[u8], at: usize) -> u32
     requires { (at + 2 ≤ length s.now) × (slice_index s.now (at + 1) ≤ 57) }
     ensures { Looks s.now at result }
 {
-    let first = s[at];
-    if first < 48 {
-        return NONE;
-    }
-    if 57 < first {
+    if !s[at].is_ascii_digit() {
         return NONE;
     }
     let second = s[at + 1];
-    if second < 48 {
-        return second as u32;
+    if second < b'0' {
+        return u32::from(second);
     }
     if s.len() - 2 <= at {
         return NONE;
     }
     let third = s[at + 2];
-    if 57 < third {
-        return third as u32 + 256;
-    }
-    if third < 48 {
-        return third as u32 + 256;
+    if !third.is_ascii_digit() {
+        return u32::from(third) + 256;
     }
     LONG
 }
@@ -275,8 +224,8 @@ fn look_at(s: &[u8], at: usize) -> u32
         return NONE;
     }
     let second = s[at + 1];
-    if 57 < second {
-        return second as u32;
+    if b'9' < second {
+        return u32::from(second);
     }
     later_look(s, at)
 }
@@ -291,23 +240,15 @@ fn first_look(s: &[u8], at: usize) -> u32
     look_at(s, at)
 }
 
-// The part of a letter is not there.
-fn not_there(at: usize, look: u32) -> Looked
-    ensures { (result.part ≡ absent_part at) × (result.look ≡ look) }
-{
-    Looked {
-        part: Part { value: 0, next: at },
-        look,
-    }
-}
-
 // The part of a letter, by the look at its place.
-fn short_part(s: &[u8], at: usize, letter: u32, look: u32) -> Looked
-    requires { (Looks s.now at look) × (letter < 256) }
+fn short_part(s: &[u8], at: usize, letter: u8, look: u32) -> Looked
+    requires { Looks s.now at look }
     ensures { Short s.now at letter look result }
 {
+    let letter = u32::from(letter);
     if look == letter {
-        let digit = std::num::wrapping_sub_u64(s[at] as u64, 48);
+        // what is below `0` wraps, so that one compare tells a digit
+        let digit = u64::from(s[at]).wrapping_sub(48);
         if digit <= 9 {
             let next = at + 2;
             return Looked {
@@ -315,17 +256,18 @@ fn short_part(s: &[u8], at: usize, letter: u32, look: u32) -> Looked
                 look: look_at(s, next),
             };
         }
-        return not_there(at, look);
-    }
-    if look == letter + 256 {
-        let value = (s[at] as u64) * 10 + (s[at + 1] as u64) - 528; // 528 at `00`
+    } else if look == letter + 256 {
+        let value = u64::from(s[at]) * 10 + u64::from(s[at + 1]) - 528; // 528 at `00`
         let next = at + 3;
         return Looked {
             part: Part { value, next },
             look: look_at(s, next),
         };
     }
-    not_there(at, look)
+    Looked {
+        part: Part { value: 0, next: at },
+        look,
+    }
 }
 
 // Where a time starts, behind its `T` if there is one, and the look there.
@@ -339,10 +281,7 @@ fn time_start(s: &[u8], at: usize, look: u32) -> Start
     requires { Looks s.now at look }
     ensures { Starts s.now at look result }
 {
-    if s.len() <= at {
-        return Start { next: at, look };
-    }
-    if s[at] == 84 {
+    if at < s.len() && s[at] == b'T' {
         let next = at + 1;
         return Start {
             next,
@@ -360,80 +299,66 @@ fn is_open(s: &[u8], at: usize, look: u32) -> bool
     if look != NONE {
         return false;
     }
-    if s.len() <= at {
+    let Some(byte) = s.get(at) else {
         return true;
-    }
-    let first = s[at];
-    if first < 48 {
-        return false;
-    }
-    if 57 < first {
-        return false;
-    }
-    true
+    };
+    byte.is_ascii_digit()
 }
 
 // What Y, M, W and D make with the time behind them, by the look there.
-fn with_time(s: &[u8], at: usize, y: Part, mo: Part, w: Part, d: Part, look: u32) -> DurationFound
-    requires { (Looks s.now d.next look) × ((look ≢ long_run) → DateParts s.now at y mo w d) }
-    ensures { Says behind_p s.now at (duration_found result) (duration_more result) }
+fn with_time(s: &[u8], at: usize, date: DateParts, look: u32) -> Found<Duration>
+    requires { (Looks s.now date.days.next look) × ((look ≢ long_run) → DateAt s.now at date) }
+    ensures { Says behind_p s.now at (got_found result) (got_more result) }
 {
-    let start = time_start(s, d.next, look);
-    let from = start.next;
+    let start = time_start(s, date.days.next, look);
     // no part of a time: the same as below, sooner
     if start.look == NONE {
-        return date_parts(at, y, mo, w, d, is_open(s, from, NONE));
+        return date_parts(at, date, is_open(s, start.next, NONE));
     }
-    let h = short_part(s, from, 72, start.look);
-    let hour = h.part;
-    let m = short_part(s, hour.next, 77, h.look);
-    let minute = m.part;
-    let before = minute.next;
-    let x = short_part(s, before, 83, m.look);
-    let second = x.part;
-    let next = second.next;
-    if before < next {
-        let value = DurationTimeParts {
-            hours: hour.value,
-            minutes: minute.value,
-            seconds: second.value,
-        };
-        return DurationFound::Got {
-            value: record_of(y, mo, w, d, value),
-            next,
+    let hours = short_part(s, start.next, b'H', start.look);
+    let minutes = short_part(s, hours.part.next, b'M', hours.look);
+    let seconds = short_part(s, minutes.part.next, b'S', minutes.look);
+    let clock = ClockParts {
+        hours: hours.part,
+        minutes: minutes.part,
+        seconds: seconds.part,
+    };
+    // with S: likewise
+    if minutes.part.next < seconds.part.next {
+        return Ok(Got {
+            value: record_of(date, time_of(clock)),
+            next: seconds.part.next,
             more: false,
-        };
+        });
     }
-    if m.look == LONG {
+    if minutes.look == LONG {
         return long_parts(s, at);
     }
-    let time = some_time(from, hour, minute, is_open(s, before, m.look));
-    all_parts(at, y, mo, w, d, time)
+    let more = is_open(s, minutes.part.next, minutes.look);
+    all_parts(at, date, some_time(start.next, clock, more))
 }
 
 // [Y][M][W][D][[T][H][M][S]]
-fn duration_parts(s: &[u8], at: usize) -> DurationFound
-    ensures { Says behind_p s.now at (duration_found result) (duration_more result) }
+fn duration_parts(s: &[u8], at: usize) -> Found<Duration>
+    ensures { Says behind_p s.now at (got_found result) (got_more result) }
 {
-    let y = short_part(s, at, 89, first_look(s, at));
-    let year = y.part;
-    let mo = short_part(s, year.next, 77, y.look);
-    let month = mo.part;
-    let w = short_part(s, month.next, 87, mo.look);
-    let week = w.part;
-    let d = short_part(s, week.next, 68, w.look);
-    let day = d.part;
-    with_time(s, at, year, month, week, day, d.look)
+    let years = short_part(s, at, b'Y', first_look(s, at));
+    let months = short_part(s, years.part.next, b'M', years.look);
+    let weeks = short_part(s, months.part.next, b'W', months.look);
+    let days = short_part(s, weeks.part.next, b'D', weeks.look);
+    let date = DateParts {
+        years: years.part,
+        months: months.part,
+        weeks: weeks.part,
+        days: days.part,
+    };
+    with_time(s, at, date, days.look)
 }
 
 // P[Y][M][W][D][[T][H][M][S]]
-pub fn duration_at(s: &[u8], at: usize) -> DurationFound
-    ensures { Says duration s.now at (duration_found result) (duration_more result) }
+pub fn duration_at(s: &[u8], at: usize) -> Found<Duration>
+    ensures { Says duration s.now at (got_found result) (got_more result) }
 {
-    let mark = parser::literal(s, at, 80);
-    match mark {
-        Mark::Got { next } => duration_parts(s, next),
-        Mark::Wrong => DurationFound::Wrong,
-        Mark::Cut => DurationFound::Cut,
-    }
+    let next = parser::literal(s, at, b'P')?;
+    duration_parts(s, next)
 }

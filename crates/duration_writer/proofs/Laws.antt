@@ -7,6 +7,8 @@ use mathlib.Core.Path.{◌≡◌, refl}
 use native.Mathlib.Omega.{arith}
 use borrow.Author.Tests.{eqb-true}
 use lib.Dec.{eqb}
+use lib.ListN.{length}
+use Rattle.std.specs.Prelude.{Some}
 use Rattle.types.specs.declared.Duration.{Duration}
 use Rattle.types.specs.Sums.{is_zero}
 use Rattle.parser.specs.Reading.{Reader, lit, seq, opt, verify, give, and, or, pick}
@@ -17,10 +19,11 @@ use Rattle.text.specs.Text.{decimal_of}
 use Rattle.writing.specs.Spelling.{part_spelling, behind_t, date_parts, time_parts, duration_spelling}
 use Rattle.writing.proofs.Texts.{ReadAs, Refuses, lit_reads, lit_refuses_end, seq_reads, seq_refuses_behind, map_reads, map_refuses, verify_reads, opt_reads, opt_lacks, give_reads, whole}
 use Rattle.writing.proofs.Digits.{begins}
-use Rattle.writing.proofs.Laws.{Spells}
+use Rattle.writing.specs.Writing.{Measures}
+use Rattle.writing.proofs.Laws.{Spells, some_measures}
 use Rattle.duration_writer.specs.Ranges.{duration_given, timeless}
 use Rattle.duration_writer.proofs.Sizes.{behind_t_lem}
-use Rattle.duration_writer.proofs.Within.{Within, given_within, duration_yields}
+use Rattle.duration_writer.proofs.Within.{Within, given_within, within_given, duration_yields}
 use Rattle.duration_writer.proofs.Parts.{kept, kept_is, none_here, spelled_reads, other_refuses, past, then_reads}
 
 -- ---- what is there of the parts
@@ -170,3 +173,7 @@ duration_reads_lem d g = go (is_zero d) refl
 
 pub duration_spells : Spells duration duration_spelling duration_given
 duration_spells = record { back = λ d g. whole (duration_reads_lem d g); ranges = λ d r. duration_yields.fact r.bytes 0 d r.count r.reads }
+
+-- a number of 64 bits is within the limit, so that some reader gives every record
+pub duration_measures : (d : Duration) {n : ℕ} → Within d → n ≡ length (duration_spelling d) → Measures duration d (duration_spelling d) (Some n)
+duration_measures d w e = some_measures duration_spells d (within_given d w) e

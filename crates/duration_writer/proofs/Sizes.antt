@@ -8,10 +8,11 @@ use borrow.Author.Tests.{ne_eqb}
 use lib.Dec.{eqb}
 use lib.ListN.{length, length-append}
 use Rattle.types.specs.declared.Duration.{Duration}
+use Rattle.types.specs.Sums.{is_zero}
 use Rattle.parser.specs.Reading.{pick, and}
 use Rattle.text.specs.Text.{decimal}
 use Rattle.text.proofs.Decimals.{digits_short}
-use Rattle.writing.specs.Spelling.{part_spelling, behind_t, date_parts, time_parts}
+use Rattle.writing.specs.Spelling.{part_spelling, behind_t, date_parts, time_parts, duration_spelling}
 use Rattle.duration_writer.specs.Ranges.{timeless}
 
 -- ---- a part
@@ -23,7 +24,7 @@ pub part_some : (n letter : ℕ) → 0 < n → part_spelling n letter ≡ decima
 unfolding part_spelling
 part_some n letter h = rw (ne_eqb n 0 (λ e. omega arith))
 
-pub part_size : (n letter : ℕ) → 0 < n → length (part_spelling n letter) ≡ length (decimal n) + 1
+part_size : (n letter : ℕ) → 0 < n → length (part_spelling n letter) ≡ length (decimal n) + 1
 part_size n letter h = rw (part_some n letter h) (length-append (decimal n) (letter ∷ []))
 
 -- twenty digits and the letter
@@ -61,3 +62,16 @@ behind_t_lem d = go (eqb d.hours 0) (eqb d.minutes 0) (eqb d.seconds 0)
     go true true false = behind_some (decimal d.seconds) 83 []
     go true false s = simp append_assoc (behind_some (decimal d.minutes) 77 _)
     go false m s = simp append_assoc (behind_some (decimal d.hours) 72 _)
+
+-- ---- all of it
+
+-- four bytes, or `P`, those of the parts, and `T` where it stands
+pub duration_size : (d : Duration) → length (duration_spelling d) ≡ pick (is_zero d) 4 (pick (timeless d) (1 + length (date_parts d)) (2 + length (date_parts d) + length (time_parts d)))
+unfolding duration_spelling
+duration_size d = rw (behind_t_lem d) (go (is_zero d) (timeless d))
+  where
+    go : (zero none : Bool) → length (pick zero (80 ∷ 84 ∷ 48 ∷ 83 ∷ []) (80 ∷ date_parts d ++ pick none [] (84 ∷ time_parts d)))
+        ≡ pick zero 4 (pick none (1 + length (date_parts d)) (2 + length (date_parts d) + length (time_parts d)))
+    go true none = refl
+    go false true = omega (arith, length-append (date_parts d) [])
+    go false false = omega (arith, length-append (date_parts d) (84 ∷ time_parts d))

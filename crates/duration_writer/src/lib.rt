@@ -3,38 +3,48 @@
 
 ghost use Rattle.std.specs.Prelude.{ℕ, ◌≤◌, ◌≡◌, length};
 ghost use Rattle.duration.specs.Rules.{duration};
-ghost use Rattle.text.specs.Text.{Puts};
+ghost use Rattle.text.specs.Text.{Puts, decimal};
 ghost use Rattle.writing.specs.Spelling.{part_spelling, behind_t, date_parts, time_parts, duration_spelling};
 ghost use Rattle.writing.specs.Writing.{Writes};
 ghost use Rattle.duration_writer.specs.Ranges.{timeless};
 
 use text::{put, put_byte, put_decimal};
 use types::Duration;
-use writing::{Written, decimal_length};
+use writing::{Unwritten, decimal_length, room_for};
+
+// The spelling of a duration whose parts are all 0.
+const ZERO: &[u8] = b"PT0S";
 
 // The length of a part, whatever its letter: none where the number is 0, or its digits and the letter.
+#[tactic(auto, unfolding(writing::specs::Spelling::part_spelling))]
 fn part_length(n: u64) -> usize
     ensures size { (letter : ℕ) → result ≡ length (part_spelling n letter) }
     ensures most { result ≤ 21 }
 {
-    if n == 0 {
-        return 0;
-    }
-    decimal_length(n) + 1
+    if n == 0 { 0 } else { decimal_length(n) + 1 }
 }
 
-// Puts a part: nothing where the number is 0. Most numbers have one digit, and these go by themselves.
+// Puts a number's decimal digits. Most numbers have one digit, and these go by themselves.
+#[tactic(auto, using(writing::proofs::Digits::one_digit))]
+fn put_number(out: &mut [u8], at: usize, n: u64) -> usize
+    ensures { Puts (decimal n) out.old at out.new result }
+{
+    if n < 10 {
+        put_byte(out, at, b'0' + n as u8)
+    } else {
+        put_decimal(out, at, n)
+    }
+}
+
+// Puts a part: nothing where the number is 0.
+#[tactic(auto, unfolding(writing::specs::Spelling::part_spelling), using(text::proofs::Laws::puts_nothing))]
 fn put_part(out: &mut [u8], at: usize, n: u64, letter: u8) -> usize
     ensures { Puts (part_spelling n letter) out.old at out.new result }
 {
     if n == 0 {
         return at;
     }
-    if n < 10 {
-        let next = put_byte(out, at, 48 + (n as u8));
-        return put_byte(out, next, letter);
-    }
-    let next = put_decimal(out, at, n);
+    let next = put_number(out, at, n);
     put_byte(out, next, letter)
 }
 
@@ -42,16 +52,11 @@ fn put_part(out: &mut [u8], at: usize, n: u64, letter: u8) -> usize
 fn is_timeless(d: Duration) -> bool
     ensures { result ≡ timeless d }
 {
-    if 0 < d.hours {
-        return false;
-    }
-    if 0 < d.minutes {
-        return false;
-    }
-    d.seconds == 0
+    d.hours == 0 && d.minutes == 0 && d.seconds == 0
 }
 
 // The length of the date parts, and that of the time parts without their `T`.
+#[tactic(auto, using(crate::proofs::Sizes::date_size))]
 fn date_length(d: Duration) -> usize
     ensures size { result ≡ length (date_parts d) }
     ensures most { result ≤ 84 }
@@ -59,6 +64,7 @@ fn date_length(d: Duration) -> usize
     part_length(d.years) + part_length(d.months) + part_length(d.weeks) + part_length(d.days)
 }
 
+#[tactic(auto, using(crate::proofs::Sizes::time_size))]
 fn time_length(d: Duration) -> usize
     ensures size { result ≡ length (time_parts d) }
     ensures most { result ≤ 63 }
@@ -67,16 +73,17 @@ fn time_length(d: Duration) -> usize
 }
 
 // The length of the duration's spelling.
+#[tactic(auto, using(crate::proofs::Sizes::duration_size))]
 pub fn duration_length(d: Duration) -> usize
     ensures { result ≡ length (duration_spelling d) }
 {
     if d.is_zero() {
-        return 4;
+        ZERO.len()
+    } else if is_timeless(d) {
+        1 + date_length(d)
+    } else {
+        2 + date_length(d) + time_length(d)
     }
-    if is_timeless(d) {
-        return 1 + date_length(d);
-    }
-    2 + date_length(d) + time_length(d)
 }
 
 // Puts the date parts.
@@ -90,6 +97,7 @@ fn put_date(out: &mut [u8], at: usize, d: Duration) -> usize
 }
 
 // Puts the time parts behind their `T`, or nothing where there are none.
+#[tactic(auto, using(crate::proofs::Sizes::behind_t_lem, text::proofs::Laws::puts_nothing))]
 fn put_time(out: &mut [u8], at: usize, d: Duration) -> usize
     ensures { Puts (behind_t (time_parts d)) out.old at out.new result }
 {
@@ -103,11 +111,12 @@ fn put_time(out: &mut [u8], at: usize, d: Duration) -> usize
 }
 
 // Puts the duration's spelling.
+#[tactic(auto, unfolding(writing::specs::Spelling::duration_spelling))]
 pub fn put_duration(out: &mut [u8], at: usize, d: Duration) -> usize
     ensures { Puts (duration_spelling d) out.old at out.new result }
 {
     if d.is_zero() {
-        return put(out, at, b"PT0S");
+        return put(out, at, ZERO);
     }
     let next = put_byte(out, at, b'P');
     let next = put_date(out, next, d);
@@ -115,13 +124,10 @@ pub fn put_duration(out: &mut [u8], at: usize, d: Duration) -> usize
 }
 
 // Writes the duration's spelling to the front of the buffer. Some reader gives every duration, so that only a short buffer is refused.
-pub fn write_duration(d: Duration, buffer: &mut [u8]) -> Written
+pub fn write_duration(d: Duration, buffer: &mut [u8]) -> Result<usize, Unwritten>
     ensures { Writes duration d (duration_spelling d) buffer.old buffer.new result }
 {
-    let count = duration_length(d);
-    if buffer.len() < count {
-        return Written::TooShort;
-    }
+    let count = room_for(Some(duration_length(d)), buffer)?;
     put_duration(buffer, 0, d);
-    Written::Text { count }
+    Ok(count)
 }

@@ -15,7 +15,7 @@ ghost use Rattle.writing.specs.Spelling.{offset_spelling, time_spelling, date_sp
 ghost use Rattle.slot_writers.specs.Promise.{WritesFrom};
 ghost use Rattle.exports.specs.Promises.{WritesUnder};
 
-use slots::{Chosen, NO_SUCH_CHOICE};
+use slots::NO_SUCH_CHOICE;
 
 // Reads the offset that the bytes begin with.
 #[unsafe(no_mangle)]
@@ -38,10 +38,9 @@ pub extern "C" fn tirozhbar_parse_offset(s: &[u8], slots: &mut [i64]) -> u32
 pub extern "C" fn tirozhbar_time(s: &[u8], slots: &mut [i64], choices: u32) -> u32
     ensures { BeginsUnder 10 2 time time_slots choices s.now slots.old slots.new result }
 {
-    let chosen = slots::choices_of(choices);
-    match chosen {
-        Chosen::Names(named) => slot_readers::time(s, slots, named),
-        Chosen::Unknown => NO_SUCH_CHOICE,
+    match slots::choices_of(choices) {
+        Some(named) => slot_readers::time(s, slots, named),
+        None => NO_SUCH_CHOICE,
     }
 }
 
@@ -50,10 +49,9 @@ pub extern "C" fn tirozhbar_time(s: &[u8], slots: &mut [i64], choices: u32) -> u
 pub extern "C" fn tirozhbar_parse_time(s: &[u8], slots: &mut [i64], choices: u32) -> u32
     ensures { EndsUnder 10 time time_slots choices s.now slots.old slots.new result }
 {
-    let chosen = slots::choices_of(choices);
-    match chosen {
-        Chosen::Names(named) => slot_readers::parse_time(s, slots, named),
-        Chosen::Unknown => NO_SUCH_CHOICE,
+    match slots::choices_of(choices) {
+        Some(named) => slot_readers::parse_time(s, slots, named),
+        None => NO_SUCH_CHOICE,
     }
 }
 
@@ -78,10 +76,9 @@ pub extern "C" fn tirozhbar_parse_date(s: &[u8], slots: &mut [i64]) -> u32
 pub extern "C" fn tirozhbar_datetime(s: &[u8], slots: &mut [i64], choices: u32) -> u32
     ensures { BeginsUnder 14 10 date_time date_time_slots choices s.now slots.old slots.new result }
 {
-    let chosen = slots::choices_of(choices);
-    match chosen {
-        Chosen::Names(named) => slot_readers::datetime(s, slots, named),
-        Chosen::Unknown => NO_SUCH_CHOICE,
+    match slots::choices_of(choices) {
+        Some(named) => slot_readers::datetime(s, slots, named),
+        None => NO_SUCH_CHOICE,
     }
 }
 
@@ -90,10 +87,9 @@ pub extern "C" fn tirozhbar_datetime(s: &[u8], slots: &mut [i64], choices: u32) 
 pub extern "C" fn tirozhbar_parse_datetime(s: &[u8], slots: &mut [i64], choices: u32) -> u32
     ensures { EndsUnder 14 date_time date_time_slots choices s.now slots.old slots.new result }
 {
-    let chosen = slots::choices_of(choices);
-    match chosen {
-        Chosen::Names(named) => slot_readers::parse_datetime(s, slots, named),
-        Chosen::Unknown => NO_SUCH_CHOICE,
+    match slots::choices_of(choices) {
+        Some(named) => slot_readers::parse_datetime(s, slots, named),
+        None => NO_SUCH_CHOICE,
     }
 }
 
@@ -126,10 +122,9 @@ pub extern "C" fn tirozhbar_write_offset(slots: &mut [i64], text: &mut [u8]) -> 
 pub extern "C" fn tirozhbar_write_time(slots: &mut [i64], text: &mut [u8], choices: u32) -> u32
     ensures { WritesUnder 10 time time_slots time_spelling choices slots.old slots.new text.old text.new result }
 {
-    let chosen = slots::choices_of(choices);
-    match chosen {
-        Chosen::Names(named) => slot_writers::write_time(slots, text, named),
-        Chosen::Unknown => NO_SUCH_CHOICE,
+    match slots::choices_of(choices) {
+        Some(named) => slot_writers::write_time(slots, text, named),
+        None => NO_SUCH_CHOICE,
     }
 }
 
@@ -146,10 +141,9 @@ pub extern "C" fn tirozhbar_write_date(slots: &mut [i64], text: &mut [u8]) -> u3
 pub extern "C" fn tirozhbar_write_datetime(slots: &mut [i64], text: &mut [u8], choices: u32) -> u32
     ensures { WritesUnder 14 date_time date_time_slots date_time_spelling choices slots.old slots.new text.old text.new result }
 {
-    let chosen = slots::choices_of(choices);
-    match chosen {
-        Chosen::Names(named) => slot_writers::write_datetime(slots, text, named),
-        Chosen::Unknown => NO_SUCH_CHOICE,
+    match slots::choices_of(choices) {
+        Some(named) => slot_writers::write_datetime(slots, text, named),
+        None => NO_SUCH_CHOICE,
     }
 }
 

@@ -1,9 +1,9 @@
 -- What `why` prints for a line, and with it, where it is to be shown, the text with a `^` at the place.
-use Rattle.std.specs.Prelude.{ℕ, Bool, true, false, List, [], ◌∷◌, ◌++◌, ◌≡◌, length, replicate}
+use Rattle.std.specs.Prelude.{ℕ, Bool, true, false, List, [], ◌∷◌, ◌++◌, ◌≡◌, length, map, replicate}
 use Rattle.parser.specs.Reading.{pick, within}
 use Rattle.kinds.specs.declared.answer.Kind.{Kind}
-use Rattle.kinds.specs.declared.answer.Letter.{Letter}
-use Rattle.kinds.specs.declared.answer.Letter.TheVariants.{Names, Unknown}
+use Rattle.std.specs.declared.option.Option.{Option}
+use Rattle.std.specs.declared.option.Option.TheVariants.{None, Some}
 use Rattle.text.specs.Text.{decimal}
 use Rattle.words.specs.declared.word.Name.TheVariants as name
 use Rattle.words.specs.Words.{letters_of}
@@ -33,9 +33,8 @@ reason_text all (Bad n) = bad_word ++ decimal n
 abbrev pub printed_of : ℕ → ℕ
 printed_of b = pick (within 32 126 b) b 46
 
-unfoldable pub printed : List ℕ → List ℕ
-printed [] = []
-printed (b ∷ s) = printed_of b ∷ printed s
+abbrev pub printed : List ℕ → List ℕ
+printed s = map printed_of s
 
 abbrev pub drawn : List ℕ → ℕ → List ℕ
 drawn s n = printed s ++ (10 ∷ []) ++ replicate n 32 ++ (94 ∷ 10 ∷ [])
@@ -59,9 +58,9 @@ pub record Explains (shown : Bool) (k : Kind) (s t : List ℕ) : Type 0 where
   pub says : t ≡ reason_text (length s) reason ++ (10 ∷ []) ++ drawing shown s reason
 
 -- "and `unknown` for a line of any other form"
-abbrev pub WhyTo : Bool → Letter → List ℕ → List ℕ → Type 0
-WhyTo shown (Names k) s t = Explains shown k s t
-WhyTo shown Unknown s t = t ≡ letters_of name.Unknown ++ (10 ∷ [])
+abbrev pub WhyTo : Bool → Option Kind → List ℕ → List ℕ → Type 0
+WhyTo shown (Some k) s t = Explains shown k s t
+WhyTo shown None s t = t ≡ letters_of name.Unknown ++ (10 ∷ [])
 
 abbrev pub WhyLine : Bool → List ℕ → List ℕ → Type 0
 WhyLine shown l t = WhyTo shown (plain_question l) (plain_text l) t

@@ -8,7 +8,7 @@ ghost use Rattle.reply.specs.Line.{Gives};
 ghost use Rattle.faults.specs.Faults.{reason_text, printed_of, printed, drawn, drawing, Explains, WhyLine};
 
 use breaks::Reason;
-use kinds::answer::{Kind, Letter};
+use kinds::answer::Kind;
 use text::{put, put_byte, put_decimal};
 use words::rows::put_name;
 use words::word::Name;
@@ -34,35 +34,30 @@ fn put_reason(reason: Reason, all: usize, out: &mut [u8], at: usize) -> usize
 fn shown_as(byte: u8) -> u8
     ensures { result ≡ printed_of byte }
 {
-    if byte < 32 {
-        return b'.';
+    match byte {
+        32..=126 => byte,
+        _ => b'.',
     }
-    if 126 < byte {
-        return b'.';
-    }
-    byte
 }
 
+#[tactic(auto, using(text::proofs::Laws::puts_nothing))]
 fn put_printed(s: &[u8], out: &mut [u8], at: usize) -> usize
     ensures { Puts (printed s.now) out.old at out.new result }
 {
     let mut next = at;
-    let mut i = 0;
-    while i < s.len() {
-        next = put_byte(out, next, shown_as(s[i]));
-        i += 1;
+    for &byte in s {
+        next = put_byte(out, next, shown_as(byte));
     }
     next
 }
 
+#[tactic(auto, using(text::proofs::Laws::puts_nothing))]
 fn put_spaces(n: usize, out: &mut [u8], at: usize) -> usize
     ensures { Puts (replicate n 32) out.old at out.new result }
 {
     let mut next = at;
-    let mut i = 0;
-    while i < n {
+    for _ in 0..n {
         next = put_byte(out, next, b' ');
-        i += 1;
     }
     next
 }
@@ -72,23 +67,20 @@ fn draw(s: &[u8], place: usize, out: &mut [u8], at: usize) -> usize
     ensures { Puts (drawn s.now place) out.old at out.new result }
 {
     let next = put_printed(s, out, at);
-    let next = put_byte(out, next, 10);
+    let next = put_byte(out, next, b'\n');
     let next = put_spaces(place, out, next);
     put(out, next, b"^\n")
 }
 
 // The drawing of a text that is refused, where it is to be shown.
+#[tactic(auto, using(text::proofs::Laws::puts_nothing))]
 fn put_drawing(reason: Reason, s: &[u8], shown: bool, out: &mut [u8], at: usize) -> usize
     ensures { Puts (drawing shown s.now reason) out.old at out.new result }
 {
-    if shown {
-        match reason {
-            Reason::Ok => at,
-            Reason::Early => draw(s, s.len(), out, at),
-            Reason::Bad { at: place } => draw(s, place, out, at),
-        }
-    } else {
-        at
+    match reason {
+        Reason::Early if shown => draw(s, s.len(), out, at),
+        Reason::Bad { at: place } if shown => draw(s, place, out, at),
+        _ => at,
     }
 }
 
@@ -97,20 +89,20 @@ fn explain(kind: Kind, s: &[u8], shown: bool, out: &mut [u8], at: usize) -> usiz
 {
     let reason = breaks::why(kind, s);
     let next = put_reason(reason, s.len(), out, at);
-    let next = put_byte(out, next, 10);
+    let next = put_byte(out, next, b'\n');
     put_drawing(reason, s, shown, out, next)
 }
 
 // What is said of a line, with the byte 10 of each line of it.
+#[tactic(auto, using(reply::proofs::Asked::plain_long))]
 pub fn why_line(line: &[u8], shown: bool, out: &mut [u8], at: usize) -> usize
     ensures { Gives (WhyLine shown line.now) out.old at out.new result }
 {
-    let asked = reply::plain_question(line);
-    match asked {
-        Letter::Names(kind) => explain(kind, &line[2..], shown, out, at),
-        Letter::Unknown => {
+    match reply::plain_question(line) {
+        Some(kind) => explain(kind, &line[2..], shown, out, at),
+        None => {
             let next = put_name(out, at, Name::Unknown);
-            put_byte(out, next, 10)
+            put_byte(out, next, b'\n')
         }
     }
 }

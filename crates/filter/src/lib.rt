@@ -3,7 +3,8 @@
 // What has arrived is answered before the program waits for more.
 #![tactic(auto)]
 
-ghost use Rattle.std.specs.Prelude.{◌≤◌, length};
+ghost use Rattle.std.specs.Prelude.{◌≡◌, IfErr};
+ghost use Rattle.std.specs.Process.{exit_status};
 ghost use Rattle.filter.specs.Served.{Serves};
 
 use std::io::{Input, Read};
@@ -11,120 +12,90 @@ use std::process::ExitCode;
 use stream::{LIMIT, Program};
 use telling::tell;
 
-// What a block leaves: how many bytes are held; or a write that failed, which is told.
-#[derive(Clone, Copy)]
-enum Served {
-    All { held: usize },
-    Failed,
-}
-
-// Whether the input may go on, and what is held of it then; or the status to end with.
-#[derive(Clone, Copy)]
-enum Turn {
-    On { held: usize },
-    Done { status: ExitCode },
-}
-
-// Hands the responses to the lines that a block ends to the write, step by step.
-fn serve(
-    rt: &(impl Print + Eprint),
+// A program that runs, and what it calls itself where it tells that something failed.
+#[derive(Drop)]
+struct Filter<'a, R> {
+    rt: &'a R,
     program: Program,
-    name: &[u8],
-    kept: &mut [u8],
+    name: &'a [u8],
+}
+
+// The first bytes of the line that goes on, how many of them are held, and room for what is put.
+#[derive(Drop)]
+struct Buffers {
+    kept: [u8; LIMIT],
     held: usize,
-    block: &[u8],
-    out: &mut [u8],
-) -> Served
-    requires { (1024 ≤ length kept.old) × (16384 ≤ length out.old) }
-    ensures { Serves program held block.now kept.old kept.new result }
-{
-    let mut held = held;
-    let mut used = 0;
-    while used < block.len() {
-        let step = stream::step(program, kept, held, block, used, out);
-        let n = step.at;
-        if let Err(why) = rt.write_all(&out[..n]) {
-            tell(rt, name, b": standard output", why);
-            return Served::Failed;
+    out: [u8; 65536],
+}
+
+// Each gives the status to end with where a read or a write failed, which is told.
+impl<R: Print + Eprint> Filter<'_, R> {
+    fn write(&self, bytes: &[u8]) -> Result<(), ExitCode>
+        ensures { IfErr result (λ status. exit_status status ≡ 1) }
+    {
+        self.rt
+            .write_all(bytes)
+            .map_err(|why| tell(self.rt, self.name, b": standard output", why))
+    }
+
+    // Hands the responses to the lines that a block ends to the write, step by step.
+    #[tactic(auto, using(crate::proofs::Along::goes_along))]
+    fn serve(&self, buffers: &mut Buffers, block: &[u8]) -> Result<(), ExitCode>
+        ensures { Serves self.now.program buffers.old block.now buffers.new result }
+    {
+        let mut used = 0;
+        // Kept: each step says how far it used the block, so no iterator counts here.
+        while used < block.len() {
+            let step = stream::step(
+                self.program,
+                &mut buffers.kept,
+                buffers.held,
+                block,
+                used,
+                &mut buffers.out,
+            );
+            self.write(&buffers.out[..step.at])?;
+            buffers.held = step.held;
+            used = step.used;
         }
-        held = step.held;
-        used = step.used;
+        Ok(())
     }
-    Served::All { held }
-}
 
-// The last line, where the input has no byte 10 behind it, and the status to end with.
-fn serve_last(
-    rt: &(impl Print + Eprint),
-    program: Program,
-    name: &[u8],
-    kept: &[u8],
-    held: usize,
-    out: &mut [u8],
-) -> ExitCode {
-    let n = stream::finish(program, kept, held, out);
-    match rt.write_all(&out[..n]) {
-        Ok(()) => ExitCode::SUCCESS,
-        Err(why) => tell(rt, name, b": standard output", why),
+    // The last line, where the input has no byte 10 behind it.
+    fn serve_last(&self, buffers: &mut Buffers) -> Result<(), ExitCode> {
+        let n = stream::finish(self.program, &buffers.kept, buffers.held, &mut buffers.out);
+        self.write(&buffers.out[..n])
     }
 }
 
-// Answers what a read gave; at the end of the input, where it gave nothing, the last line. Done also where something failed, which is told.
-fn one_turn(
-    rt: &(impl Print + Eprint),
-    program: Program,
-    name: &[u8],
-    block: &[u8],
-    kept: &mut [u8],
-    held: usize,
-    out: &mut [u8],
-) -> Turn
-    requires { (1024 ≤ length kept.old) × (16384 ≤ length out.old) }
-{
-    if block.is_empty() {
-        let status = serve_last(rt, program, name, kept, held, out);
-        return Turn::Done { status };
-    }
-    let served = serve(rt, program, name, kept, held, block, out);
-    match served {
-        Served::All { held: count } => Turn::On { held: count },
-        Served::Failed => Turn::Done {
-            status: ExitCode::FAILURE,
-        },
-    }
-}
-
-// A proved loop has to end, and nothing says that an input does. So the loop counts its turns, to a number that no run reaches.
-fn all_turns(
-    rt: &(impl Input + Print + Eprint),
-    program: Program,
-    name: &[u8],
-    buf: &mut [u8],
-    kept: &mut [u8],
-    out: &mut [u8],
-) -> ExitCode
-    requires { (1024 ≤ length kept.old) × (16384 ≤ length out.old) }
-{
-    let mut input = rt.reader();
-    let mut held = 0;
-    for _ in 0..u64::MAX {
-        let n = match input.read(buf) {
-            Ok(n) => n,
-            Err(why) => return tell(rt, name, b": standard input", why),
-        };
-        let next = one_turn(rt, program, name, &buf[..n], kept, held, out);
-        match next {
-            Turn::On { held: count } => held = count,
-            Turn::Done { status } => return status,
+impl<R: Input + Print + Eprint> Filter<'_, R> {
+    // A proved loop has to end, and nothing says that an input does. So the loop counts its turns, to a number that no run reaches.
+    fn serve_all(&self, buffers: &mut Buffers, buf: &mut [u8]) -> Result<(), ExitCode> {
+        let mut input = self.rt.reader();
+        for _ in 0..u64::MAX {
+            let n = input
+                .read(buf)
+                .map_err(|why| tell(self.rt, self.name, b": standard input", why))?;
+            if n == 0 {
+                return self.serve_last(buffers);
+            }
+            self.serve(buffers, &buf[..n])?;
         }
+        Err(ExitCode::FAILURE)
     }
-    ExitCode::FAILURE
 }
 
 // The name is what the program calls itself where it tells that something failed. The status is that to end with.
 pub fn run(rt: &(impl Input + Print + Eprint), program: Program, name: &[u8]) -> ExitCode {
     let mut buf = [0u8; 65536];
-    let mut kept = [0u8; LIMIT];
-    let mut out = [0u8; 65536];
-    all_turns(rt, program, name, &mut buf, &mut kept, &mut out)
+    let mut buffers = Buffers {
+        kept: [0; LIMIT],
+        held: 0,
+        out: [0; 65536],
+    };
+    let filter = Filter { rt, program, name };
+    match filter.serve_all(&mut buffers, &mut buf) {
+        Ok(()) => ExitCode::SUCCESS,
+        Err(status) => status,
+    }
 }

@@ -8,6 +8,8 @@ use mathlib.Core.Path.{◌≡◌, refl, sym, ap, ◌∙◌}
 use native.Mathlib.Omega.{arith}
 use lib.Dec.{ltb}
 use lib.ListN.{length}
+use Rattle.std.specs.declared.result.Result.{Result}
+use Rattle.std.specs.declared.result.Result.TheVariants.{Ok, Err}
 use Rattle.types.specs.declared.Choices.{Choices}
 use Rattle.types.specs.declared.DateTime.{DateTime}
 use Rattle.types.specs.declared.Refusal.{Refusal}
@@ -18,15 +20,16 @@ use Rattle.datetime.specs.Rules.{date_time}
 use Rattle.datetime.proofs.Laws.{datetime_stops}
 use Rattle.moments.specs.declared.Apart.{Apart}
 use Rattle.moments.specs.declared.Fault.{Fault}
+use Rattle.moments.specs.declared.Faulty.{Faulty}
 use Rattle.moments.specs.declared.Fault.TheVariants.{Text}
 use Rattle.moments.specs.Moments.{Moment, no_day, no_offset, at, moment_of, Between, apart_number}
 use Rattle.moments.proofs.Once.{between_once}
 use Rattle.gaps.specs.Gaps.{wholly, Refuses, OfTexts, Tells}
 
-refuses_once : {n : ℕ} {which : Fault → Apart} {q r : Apart} → Refuses n which q → Refuses n which r → q ≡ r
-refuses_once {which} h k = h.is ∙ ap (λ (w : Refusal). which (Text w)) (number_once h.why k.why (h.number ∙ sym k.number)) ∙ sym k.is
+refuses_once : {n : ℕ} {which : Fault → Faulty} {q r : Result Apart Faulty} → Refuses n which q → Refuses n which r → q ≡ r
+refuses_once {which} h k = h.is ∙ ap (λ (w : Refusal). Err (which (Text w))) (number_once h.why k.why (h.number ∙ sym k.number)) ∙ sym k.is
 
-pub apart_once : (c : Choices) (s t : List ℕ) (q r : Apart) → Tells c s t q → Tells c s t r → q ≡ r
+pub apart_once : (c : Choices) (s t : List ℕ) (q r : Result Apart Faulty) → Tells c s t q → Tells c s t r → q ≡ r
 apart_once c s t q r h k = go (wholly c s).value (wholly c t).value h k
   where
     go : (x y : Option DateTime) → OfTexts x (wholly c s).number y (wholly c t).number q → OfTexts x (wholly c s).number y (wholly c t).number r → q ≡ r
@@ -59,14 +62,15 @@ of_text : {n : ℕ} → (n ≡ 1) ⊎ (n ≡ 3) → Number n
 of_text (inl e) = rw e no_form_lem
 of_text (inr e) = rw e left_over
 
-of_moments : (x y : Moment) (r : Apart) → Between x y r → Number (apart_number r)
+of_moments : (x y : Moment) (r : Result Apart Faulty) → Between x y r → Number (apart_number r)
 of_moments no_day y r e = rw e no_day_lem
 of_moments no_offset y r e = rw e no_offset_lem
 of_moments (at s m) no_day r e = rw e no_day_lem
 of_moments (at s m) no_offset r e = rw e no_offset_lem
-of_moments (at s m) (at t n) r e = rw e.is difference
+of_moments (at s m) (at t n) (Ok d) e = difference
+of_moments (at s m) (at t n) (Err f) e = absurd e
 
-pub numbers : (c : Choices) (s t : List ℕ) (r : Apart) → Tells c s t r → Number (apart_number r)
+pub numbers : (c : Choices) (s t : List ℕ) (r : Result Apart Faulty) → Tells c s t r → Number (apart_number r)
 numbers c s t r h = go (wholly c s).value (wholly c t).value refl refl h
   where
     go : (x y : Option DateTime) → (wholly c s).value ≡ x → (wholly c t).value ≡ y → OfTexts x (wholly c s).number y (wholly c t).number r → Number (apart_number r)

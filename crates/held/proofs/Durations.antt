@@ -5,7 +5,8 @@ use mathlib.Core.Path.{◌≡◌, refl, sym, ◌∙◌}
 use native.Mathlib.Omega.{arith}
 use lib.IntN.{ℤ}
 use mir.Syntax.{w64}
-use mir.Facts.{to_z_inj}
+use mir.Val.{SFits, of_z}
+use mir.Facts.{to_z_inj, to_z-of_z}
 use Rattle.parser.specs.Digits.{limit}
 use Rattle.slots.specs.Slots.{as_slot, duration_slots}
 use Rattle.slots.proofs.Stores.{◌then◌, slot_bits}
@@ -15,6 +16,9 @@ use Rattle.held.specs.Held.{Made}
 
 slot_once : (a b : ℕ) → a < 2 ^ 64 → b < 2 ^ 64 → as_slot a ≡ as_slot b → a ≡ b
 slot_once a b ha hb e = to_z_inj {w = w64} (record { fits = ha }) (record { fits = hb }) (sym (slot_bits a) ∙ e ∙ slot_bits b)
+
+pub bits_held : (z : ℤ) → SFits w64 z → as_slot (of_z w64 z) ≡ z
+bits_held z h = slot_bits (of_z w64 z) ∙ to_z-of_z h
 
 -- a number of 64 bits that its slot holds is the only one
 pub record Number (z : ℤ) (n : ℕ) : Type 0 where

@@ -10,8 +10,8 @@ use lib.Dec.{leb}
 use lib.IntN.{ℤ, pos, nat_abs}
 use Rattle.types.specs.declared.Choices.{Choices}
 use Rattle.types.specs.declared.Offset.{Offset}
-use Rattle.types.specs.declared.TimeOffset.{TimeOffset}
-use Rattle.types.specs.declared.TimeOffset.TheVariants.{Absent, Given}
+use Rattle.std.specs.declared.option.Option.{Option}
+use Rattle.std.specs.declared.option.Option.TheVariants.{None, Some}
 use Rattle.types.specs.declared.Time.{Time}
 use Rattle.types.specs.declared.Date.{Date}
 use Rattle.types.specs.declared.Date.TheVariants.{YMD, Week, Ordinal}
@@ -87,29 +87,29 @@ offset_made i j = record {
 -- ---- the offset of a time
 
 module _ {given hours minutes : ℤ} where
-  pub given_made : {o : Offset} → given ≡ pos 1 → Made offset_given offset_slots (hours ∷ minutes ∷ []) o → Made time_offset_given time_offset_slots (given ∷ hours ∷ minutes ∷ []) (Given o)
+  pub given_made : {o : Offset} → given ≡ pos 1 → Made offset_given offset_slots (hours ∷ minutes ∷ []) o → Made time_offset_given time_offset_slots (given ∷ hours ∷ minutes ∷ []) (Some o)
   unfolding time_offset_given
   given_made {o} e h = record { found = found; held = λ g. sym e then h.held g }
     where
-      found : (b : TimeOffset) → time_offset_given b ≡ true → time_offset_slots b ≡ given ∷ hours ∷ minutes ∷ [] → Given o ≡ b
-      found Absent g i = absurd (let z = clash {m = 0} {z = given} (cc) e in omega arith)
-      found (Given p) g i = ap Given (h.found p g (cc))
+      found : (b : Option Offset) → time_offset_given b ≡ true → time_offset_slots b ≡ given ∷ hours ∷ minutes ∷ [] → Some o ≡ b
+      found None g i = absurd (let z = clash {m = 0} {z = given} (cc) e in omega arith)
+      found (Some p) g i = ap Some (h.found p g (cc))
 
-  pub absent_made : given ≡ pos 0 → hours ≡ pos 0 → minutes ≡ pos 0 → Made time_offset_given time_offset_slots (given ∷ hours ∷ minutes ∷ []) Absent
+  pub absent_made : given ≡ pos 0 → hours ≡ pos 0 → minutes ≡ pos 0 → Made time_offset_given time_offset_slots (given ∷ hours ∷ minutes ∷ []) None
   absent_made e f g = record { found = found; held = λ _. sym e then sym f then sym g then refl }
     where
-      found : (b : TimeOffset) → time_offset_given b ≡ true → time_offset_slots b ≡ given ∷ hours ∷ minutes ∷ [] → Absent ≡ b
-      found Absent g i = refl
-      found (Given p) g i = absurd (let z = clash {m = 1} {z = given} (cc) e in omega arith)
+      found : (b : Option Offset) → time_offset_given b ≡ true → time_offset_slots b ≡ given ∷ hours ∷ minutes ∷ [] → None ≡ b
+      found None g i = refl
+      found (Some p) g i = absurd (let z = clash {m = 1} {z = given} (cc) e in omega arith)
 
   -- neither given nor absent
-  pub no_offset_made : (given ≡ pos 1 → ⊥) → (given ≡ pos 0 → hours ≡ pos 0 → minutes ≡ pos 0 → ⊥) → Made time_offset_given time_offset_slots (given ∷ hours ∷ minutes ∷ []) (Given (record { hours = pos 24; minutes = pos 0 }))
+  pub no_offset_made : (given ≡ pos 1 → ⊥) → (given ≡ pos 0 → hours ≡ pos 0 → minutes ≡ pos 0 → ⊥) → Made time_offset_given time_offset_slots (given ∷ hours ∷ minutes ∷ []) (Some (record { hours = pos 24; minutes = pos 0 }))
   unfolding time_offset_given offset_given
   no_offset_made e f = not_made refl none
     where
-      none : (b : TimeOffset) → time_offset_slots b ≡ given ∷ hours ∷ minutes ∷ [] → ⊥
-      none Absent i = f (cc) (cc) (cc)
-      none (Given p) i = e (cc)
+      none : (b : Option Offset) → time_offset_slots b ≡ given ∷ hours ∷ minutes ∷ [] → ⊥
+      none None i = f (cc) (cc) (cc)
+      none (Some p) i = e (cc)
 
 -- ---- times
 
@@ -135,11 +135,11 @@ time_small c t e =
     }
 
 -- the offset's three slots and the one behind them
-split : (o : TimeOffset) {given hours minutes digits z : ℤ} → time_offset_slots o ++ z ∷ [] ≡ given ∷ hours ∷ minutes ∷ digits ∷ [] → (time_offset_slots o ≡ given ∷ hours ∷ minutes ∷ []) × (z ≡ digits)
-split Absent e = (cc, cc)
-split (Given o) e = (cc, cc)
+split : (o : Option Offset) {given hours minutes digits z : ℤ} → time_offset_slots o ++ z ∷ [] ≡ given ∷ hours ∷ minutes ∷ digits ∷ [] → (time_offset_slots o ≡ given ∷ hours ∷ minutes ∷ []) × (z ≡ digits)
+split None e = (cc, cc)
+split (Some o) e = (cc, cc)
 
-pub time_made : (c : Choices) {hour minute second nanosecond given hours minutes digits : ℤ} {h m s n d : ℕ} {o : TimeOffset} → Natural hour h → Natural minute m → Natural second s → Natural nanosecond n → Natural digits d
+pub time_made : (c : Choices) {hour minute second nanosecond given hours minutes digits : ℤ} {h m s n d : ℕ} {o : Option Offset} → Natural hour h → Natural minute m → Natural second s → Natural nanosecond n → Natural digits d
     → Made time_offset_given time_offset_slots (given ∷ hours ∷ minutes ∷ []) o
     → Made (time_given c) time_slots (hour ∷ minute ∷ second ∷ nanosecond ∷ given ∷ hours ∷ minutes ∷ digits ∷ []) (record { hour = h; minute = m; second = s; nanosecond = n; digits = d; offset = o })
 time_made c {given = given} {hours = hours} {minutes = minutes} {digits = digits} h m s n d o = record {

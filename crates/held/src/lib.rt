@@ -10,31 +10,19 @@ ghost use Rattle.date_writer.specs.Ranges.{date_given};
 ghost use Rattle.duration_writer.specs.Ranges.{duration_given};
 ghost use Rattle.held.specs.Held.{Natural, Integer, Made};
 
-use types::{Date, Duration, Offset, Time, TimeOffset};
+use types::{Date, Duration, Offset, Time};
 
 // A slot's number in 32 bits: without a sign, and with one. What does not fit becomes a number that is in no offset, time or date.
 fn natural(n: i64) -> u32
     ensures { Natural n result }
 {
-    if n < 0 {
-        return 4294967295;
-    }
-    if 4294967295 < n {
-        return 4294967295;
-    }
-    n as u32
+    u32::try_from(n).unwrap_or(u32::MAX)
 }
 
 fn integer(n: i64) -> i32
     ensures { Integer n result }
 {
-    if n < -2147483647 {
-        return 2147483647;
-    }
-    if 2147483647 < n {
-        return 2147483647;
-    }
-    n as i32
+    i32::try_from(n).unwrap_or(i32::MAX)
 }
 
 // Of each kind, the record of its slots: the one that they hold, where some reader gives it, and otherwise one that no reader gives.
@@ -48,20 +36,17 @@ pub fn offset_of(hours: i64, minutes: i64) -> Offset
 }
 
 // Absent is 0 and two zeros. No reader gives an offset of 24 hours.
-fn time_offset_of(given: i64, hours: i64, minutes: i64) -> TimeOffset
+#[tactic(auto, using(crate::proofs::Made::no_offset_made, crate::proofs::Made::absent_made))]
+fn time_offset_of(given: i64, hours: i64, minutes: i64) -> Option<Offset>
     ensures { Made time_offset_given time_offset_slots (given ∷ hours ∷ minutes ∷ []) result }
 {
     if given == 1 {
-        return TimeOffset::Given(offset_of(hours, minutes));
+        return Some(offset_of(hours, minutes));
     }
-    if given == 0 {
-        if hours == 0 {
-            if minutes == 0 {
-                return TimeOffset::Absent;
-            }
-        }
+    if given == 0 && hours == 0 && minutes == 0 {
+        return None;
     }
-    TimeOffset::Given(Offset {
+    Some(Offset {
         hours: 24,
         minutes: 0,
     })
@@ -91,43 +76,35 @@ pub fn time_of(
 }
 
 // An ordinal date has no month: its slot is 0. No reader gives a day 0.
+#[tactic(auto, using(crate::proofs::Made::no_date_made))]
 pub fn date_of(form: i64, year: i64, part: i64, day: i64) -> Date
     ensures { Made date_given date_slots (form ∷ year ∷ part ∷ day ∷ []) result }
 {
-    if form == 0 {
-        return Date::YMD {
+    match form {
+        0 => Date::YMD {
             year: integer(year),
             month: natural(part),
             day: natural(day),
-        };
-    }
-    if form == 1 {
-        return Date::Week {
+        },
+        1 => Date::Week {
             year: integer(year),
             week: natural(part),
             day: natural(day),
-        };
+        },
+        2 if part == 0 => Date::Ordinal {
+            year: integer(year),
+            day: natural(day),
+        },
+        _ => Date::Ordinal { year: 0, day: 0 },
     }
-    if form == 2 {
-        if part == 0 {
-            return Date::Ordinal {
-                year: integer(year),
-                day: natural(day),
-            };
-        }
-    }
-    Date::Ordinal { year: 0, day: 0 }
 }
 
 // The number whose 64 bits a slot has.
+#[tactic(auto, using(crate::proofs::Durations::bits_held))]
 fn number_of(slot: i64) -> u64
     ensures { as_slot result ≡ slot }
 {
-    if slot < 0 {
-        let left = 0 - (slot + 1);
-        return 18446744073709551615 - (left as u64);
-    }
-    slot as u64
+    slot.cast_unsigned()
 }
 
 // Every number of 64 bits is in some duration, so that all slots hold one.

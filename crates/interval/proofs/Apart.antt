@@ -1,19 +1,18 @@
 -- A date-time and a duration never begin with the same byte; and of two alternatives that never do, each has its own laws in the whole.
-use Prim.Native.Nat.{ℕ, suc, ◌+◌, ◌≤◌}
+use Prim.Native.Nat.{ℕ, suc, ◌≤◌}
 use mathlib.Core.List.{List, ◌∷◌, ◌++◌}
-use mathlib.Core.Bool.{Bool, true, false, not}
+use mathlib.Core.Bool.{Bool, true, false}
 use mathlib.Core.Path.{◌≡◌, refl, sym, ◌∙◌}
 use mathlib.Core.Logic.{◌⊎◌, inl, inr}
 use native.Mathlib.Omega.{arith}
 use lib.Dec.{ltb, eqb}
 use lib.ListN.{length, get_or, take, drop, length-append}
 use lib.Seq.{length-take-le, split_at}
-use borrow.Author.Tests.{ltb-true, ltb-false, lt-ltb, eqb-true, not-true}
+use borrow.Author.Tests.{ltb-true, ltb-false, lt-ltb, eqb-true}
 use Rattle.types.specs.declared.Choices.{Choices}
 use Rattle.types.specs.declared.DateTime.{DateTime}
 use Rattle.types.specs.declared.Duration.{Duration}
-use Rattle.parser.specs.Reading.{Found, no, got, stop, Reader, lit, seq, alt, or_else, failed, verify, map, pick, or, and, Says}
-use Rattle.parser.proofs.Fields.{true≢false}
+use Rattle.parser.specs.Reading.{Found, no, got, stop, Reader, lit, seq, alt, or_else, failed, verify, map, or, and, Says}
 use Rattle.parser.proofs.Places.{no≢got, alt_fails}
 use Rattle.parser.proofs.General.{alt_eager}
 use Rattle.parser.proofs.Steady.{alt_steady}
@@ -34,29 +33,6 @@ use Rattle.interval.specs.Followed.{followed}
 -- nothing is found there, whatever follows
 abbrev pub Out : {A : Type 0} → Reader A → List ℕ → ℕ → Type 0
 Out p s at = Says p s at no false
-
--- what code says of a byte tells where it stands
-pub lit_there : (c : ℕ) (s : List ℕ) (at n : ℕ) → Says (lit c) s at (got tt n) false → (ltb at (length s) ≡ true) × (get_or s at 0 ≡ c)
-unfolding lit
-lit_there c s at n h = go (ltb at (length s)) (eqb (get_or s at 0) c) refl h.found
-  where
-    go : (t u : Bool) → eqb (get_or s at 0) c ≡ u → ◌≡◌ {A = Found Unit} (got tt n) (pick (and t u) (got tt (at + 1)) no) → (t ≡ true) × (get_or s at 0 ≡ c)
-    go true true i e = (refl, eqb-true (get_or s at 0) c i)
-    go true false i e = absurd (no≢got (sym e))
-    go false u i e = absurd (no≢got (sym e))
-
-pub lit_not : (c : ℕ) (s : List ℕ) (at : ℕ) → Says (lit c) s at no false → (ltb at (length s) ≡ true) × (eqb (get_or s at 0) c ≡ false)
-unfolding lit
-lit_not c s at h = go (ltb at (length s)) (eqb (get_or s at 0) c) h.found h.more
-  where
-    go : (t u : Bool) → ◌≡◌ {A = Found Unit} no (pick (and t u) (got tt (at + 1)) no) → false ≡ not t → (t ≡ true) × (u ≡ false)
-    go true true e m = absurd (no≢got e)
-    go true false e m = (refl, refl)
-    go false u e m = absurd (true≢false (sym m))
-
-pub lit_past : (c : ℕ) (s : List ℕ) (at : ℕ) → Says (lit c) s at no true → length s ≤ at
-unfolding lit
-lit_past c s at h = ltb-false at (length s) (not-true (ltb at (length s)) (sym h.more))
 
 -- the second alternative is out
 pub says_alt_out : {A : Type 0} (p q : Reader A) (s : List ℕ) (at : ℕ) (f : Found A) (m : Bool) → Says p s at f m → Out q s at → Says (alt p q) s at f m

@@ -3,22 +3,28 @@
 use Prim.Native.Nat.{ℕ}
 use mathlib.Core.List.{List}
 use mathlib.Core.Bool.{Bool, true, false, not}
-use mathlib.Core.Path.{◌≡◌, refl, sym, ◌∙◌}
-use mathlib.Core.Logic.{◌⊎◌, inl, inr}
+use mathlib.Core.Path.{◌≡◌, refl, sym, ap, ◌∙◌}
+use mathlib.Core.Logic.{inl, inr}
+use Rattle.types.specs.Numbers.{number_of}
 use Rattle.types.specs.declared.Choices.{Choices}
 use Rattle.types.specs.declared.DateTime.{DateTime}
 use Rattle.types.specs.declared.IntervalRange.{IntervalRange}
 use Rattle.parser.specs.Reading.{Found, no, got, stop, Reader, lit, seq, and, or, Says}
+use Rattle.parser.specs.Read.{missed, cut}
+use Rattle.parser.specs.declared.Miss.{Miss}
+use Rattle.parser.specs.declared.Miss.TheVariants as miss
 use Rattle.parser.proofs.Fields.{true≢false, and_right}
-use Rattle.parser.proofs.Places.{no≢got, no≢stop, stop≢got, got_place, got_value}
+use Rattle.parser.proofs.Places.{no≢got, stop≢got, got_place, got_value}
 use Rattle.parser.proofs.Lawful.{open_behind}
+use Rattle.parser.proofs.Stops.{lit_stops}
 use Rattle.parser.proofs.Says.{or_true, says_seq_got, says_seq_no}
 use Rattle.datetime.specs.Rules.{date_time}
-use Rattle.interval.specs.Rules.{tried}
+use Rattle.interval.specs.Rules.{no_form_fails, tried, stamp}
 use Rattle.interval.specs.Followed.{followed, held_by}
 use Rattle.interval.specs.Once.{after_start, stamp_first}
 use Rattle.interval.proofs.Beside.{NoSlash, Beside, same, apart, stamp_beside}
 use Rattle.interval.proofs.FollowedLaws.{followed_item}
+use Rattle.parser.proofs.Passed.{missed_got, missed_no, says_seq_missed}
 use Rattle.interval.proofs.Telling.{says_tried}
 
 module _ (c : Choices) (s : List ℕ) (at : ℕ) where
@@ -29,11 +35,6 @@ module _ (c : Choices) (s : List ℕ) (at : ℕ) where
   followed_got : (a : DateTime) (n : ℕ) (m l : Bool) (f : Found IntervalRange) → Says (followed c) s at (got a n) m → Says (behind a) s n f l → Says (stamp_first c) s at f (or m l)
   unfolding stamp_first
   followed_got a n m l f h k = says_seq_got (tried (followed c)) s at behind a n m f l (says_tried (followed c) s at (got a n) m h) k
-
-  followed_no : (f : Found DateTime) (m : Bool) → (f ≡ no) ⊎ (f ≡ stop 1) → Says (followed c) s at f m → Says (stamp_first c) s at no m
-  unfolding stamp_first
-  followed_no f m (inl e) h = says_seq_no (tried (followed c)) s at behind m (says_tried (followed c) s at no m (rw e at h))
-  followed_no f m (inr e) h = says_seq_no (tried (followed c)) s at behind m (says_tried (followed c) s at (stop 1) m (rw e at h))
 
   no_slash : (a : DateTime) (n : ℕ) → NoSlash s n → Says (behind a) s n no false
   no_slash a n h = says_seq_no (lit 47) s n (λ _. after_start c a) false (record { found = sym h.reads; more = sym h.more })
@@ -72,7 +73,7 @@ module _ (c : Choices) (s : List ℕ) (at : ℕ) where
           rw (held, and_right m refl) (followed_got b j false false no (record { found = sym e; more = sym o }) (no_slash b j none))
 
   -- the input ends there
-  pub end_first : (a : DateTime) (n : ℕ) (m : Bool) → Says (date_time c) s at (got a n) m → Says (lit 47) s n no true → Says (stamp_first c) s at no true
+  end_first : (a : DateTime) (n : ℕ) (m : Bool) → Says (date_time c) s at (got a n) m → Says (lit 47) s n no true → Says (stamp_first c) s at no true
   end_first a n m h mark = go (stamp_beside c s at)
     where
       go : Beside (held_by s) s (date_time c) (followed c) at → Says (stamp_first c) s at no true
@@ -80,18 +81,17 @@ module _ (c : Choices) (s : List ℕ) (at : ℕ) where
       go (apart b j e o none (inl i)) = absurd (stop≢got (sym i ∙ sym h.found))
       go (apart b j e o none (inr i)) = let here : j ≡ n = got_place (sym i.0 ∙ sym h.found) in absurd (true≢false (mark.more ∙ rw here at none.more))
 
-  -- a date-time that is no form, or is not there
-  pub stopped_first : Says (date_time c) s at (stop 1) false → Says (stamp_first c) s at no false
-  stopped_first h = go (stamp_beside c s at)
-    where
-      go : Beside (held_by s) s (date_time c) (followed c) at → Says (stamp_first c) s at no false
-      go (same e o _) = followed_no (stop 1) false (inr refl) (record { found = h.found ∙ sym e; more = h.more ∙ sym o })
-      go (apart b j e o none _) = followed_got b j false false no (record { found = sym e; more = sym o }) (no_slash b j none)
+  pub cut_first : (a : DateTime) (n : ℕ) (m : Bool) (x : Miss) → (x ≡ miss.Wrong → ⊥) → Says (date_time c) s at (got a n) m → Says (lit 47) s n (missed x) (cut x) → Says (stamp_first c) s at (missed x) (cut x)
+  cut_first a n m (miss.Stopped why) w h mark = absurd ((lit_stops {P = λ _. ⊥} 47).by s n (number_of why) (sym mark.found))
+  cut_first a n m miss.Wrong w h mark = absurd (w refl)
+  cut_first a n m miss.Cut w h mark = end_first a n m h mark
 
-  pub none_first : (m : Bool) → Says (date_time c) s at no m → Says (stamp_first c) s at no m
-  none_first m h = go (stamp_beside c s at)
+  -- a date-time that is no form, or is not there
+  pub missed_first : (m : Miss) → ((date_time c).reads s at ≡ stop 1 → cut m ≡ false) → Says (stamp c) s at (missed m) (cut m) → Says (stamp_first c) s at (missed m) (cut m)
+  unfolding stamp tried stamp_first
+  missed_first m settled h = go (stamp_beside c s at)
     where
-      go : Beside (held_by s) s (date_time c) (followed c) at → Says (stamp_first c) s at no m
-      go (same e o _) = followed_no no m (inl refl) (record { found = h.found ∙ sym e; more = h.more ∙ sym o })
-      go (apart b j e o none (inl i)) = absurd (no≢stop (h.found ∙ i))
-      go (apart b j e o none (inr i)) = absurd (no≢got (h.found ∙ i.0))
+      go : Beside (held_by s) s (date_time c) (followed c) at → Says (stamp_first c) s at (missed m) (cut m)
+      go (same e o _) = says_seq_missed (tried (followed c)) s at behind m (record { found = h.found ∙ ap no_form_fails (sym e); more = h.more ∙ sym o })
+      go (apart b j e o none (inl i)) = rw (missed_no m (h.found ∙ ap no_form_fails i), settled i) (followed_got b j false false no (record { found = sym e; more = sym o }) (no_slash b j none))
+      go (apart b j e o none (inr i)) = absurd (missed_got m (h.found ∙ ap no_form_fails i.0))

@@ -7,10 +7,14 @@ use mathlib.Core.Path.{◌≡◌, refl, sym, ◌∙◌}
 use lib.Dec.{ltb, eqb}
 use lib.ListN.{length, get_or}
 use borrow.Author.Tests.{ltb-false, eqb-true}
+use Rattle.types.specs.Numbers.{number_of}
 use Rattle.types.specs.declared.Choices.{Choices}
 use Rattle.types.specs.declared.Interval.{Interval}
 use Rattle.types.specs.declared.Repetitions.{Repetitions}
 use Rattle.parser.specs.Reading.{Found, no, got, stop, Reader, lit, seq, opt, lack, map, or, Says}
+use Rattle.parser.specs.Read.{missed, cut}
+use Rattle.parser.specs.declared.Miss.{Miss}
+use Rattle.parser.specs.declared.Miss.TheVariants as miss
 use Rattle.parser.proofs.Fields.{true≢false}
 use Rattle.parser.proofs.Alike.{alike_says}
 use Rattle.parser.proofs.Says.{says_map, says_opt, says_seq_got, says_seq_no, says_seq_stop, says_alt_no}
@@ -31,9 +35,9 @@ module _ (c : Choices) (s : List ℕ) (at : ℕ) where
   unfolding interval_once repetitions
   with_repeat f o n m l g e h k = alike_says (interval c) (interval_once c) (interval_alike c) s at g (or m l) (says_seq_got repetitions s at ranged (or_once o) n m g l (says_map (opt repeated) s at or_once (got o n) m (rw e at (says_opt repeated s at f m h))) k)
 
-  pub repeat_stop : Says repeated s at (stop 2) false → Says (interval c) s at (stop 2) false
+  repeat_stop : (r : ℕ) → Says repeated s at (stop r) false → Says (interval c) s at (stop r) false
   unfolding interval_once repetitions
-  repeat_stop h = alike_says (interval c) (interval_once c) (interval_alike c) s at (stop 2) false (says_seq_stop repetitions s at ranged 2 false (says_map (opt repeated) s at or_once (stop 2) false (says_opt repeated s at (stop 2) false h)))
+  repeat_stop r h = alike_says (interval c) (interval_once c) (interval_alike c) s at (stop r) false (says_seq_stop repetitions s at ranged r false (says_map (opt repeated) s at or_once (stop r) false (says_opt repeated s at (stop r) false h)))
 
   -- where a repeat is open the input has ended, or `R` stands there, with which no side begins
   r_out : ltb at (length s) ≡ true → get_or s at 0 ≡ 82 → Out (range_once c) s at
@@ -52,5 +56,11 @@ module _ (c : Choices) (s : List ℕ) (at : ℕ) where
       go true i true e = sym (r_out i (eqb-true (get_or s at 0) 82 e)).found
       go true i false e = absurd (true≢false (h.more ∙ sym (says_seq_no (lit 82) s at (λ _. digits_and_slash) false (lit_out 82 s at i e)).more))
 
-  pub repeat_cut : Says repeated s at no true → Says (interval c) s at no true
+  repeat_cut : Says repeated s at no true → Says (interval c) s at no true
   repeat_cut h = with_repeat no none at true _ no refl h (says_map (range_once c) s at (interval_of (or_once none)) no _ (record { found = sym (no_side_lem h); more = refl }))
+
+  -- a repeat whose number is too big, or one that has not come yet
+  pub repeat_missed : (m : Miss) → (m ≡ miss.Wrong → ⊥) → Says repeated s at (missed m) (cut m) → Says (interval c) s at (missed m) (cut m)
+  repeat_missed (miss.Stopped why) w h = repeat_stop (number_of why) h
+  repeat_missed miss.Wrong w h = absurd (w refl)
+  repeat_missed miss.Cut w h = repeat_cut h

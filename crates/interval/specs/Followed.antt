@@ -4,11 +4,12 @@
 use Rattle.std.specs.Prelude.{ℕ, ◌+◌, List, Bool, true, false, get_or, eqb}
 use Rattle.types.specs.declared.Choices.{Choices}
 use Rattle.types.specs.declared.DateTime.{DateTime}
+use Rattle.types.specs.declared.Offset.{Offset}
 use Rattle.types.specs.declared.Reading.{Reading}
 use Rattle.types.specs.declared.Reading.TheVariants.{Old, Standard}
 use Rattle.types.specs.declared.Time.{Time}
-use Rattle.types.specs.declared.TimeOffset.{TimeOffset}
-use Rattle.types.specs.declared.TimeOffset.TheVariants.{Absent, Given}
+use Rattle.std.specs.declared.option.Option.{Option}
+use Rattle.std.specs.declared.option.Option.TheVariants.{None, Some}
 use Rattle.parser.specs.Reading.{Reader, lit, seq, opt, alt, map, pick, and, within}
 use Rattle.parser.specs.Digits.{field}
 use Rattle.parser.specs.Fields.{preceded_by, or_zero}
@@ -50,9 +51,9 @@ abbrev pub held_at : List ℕ → ℕ → Bool
 held_at s n = pick (eqb (get_or s n 0) 58) (not_zero s (n + 1)) (not_zero s n)
 
 -- a time of that hour, with no offset, that ends where these stand: nothing can follow it. Behind an offset they may be its minutes.
-abbrev pub is_absent : TimeOffset → Bool
-is_absent Absent = true
-is_absent (Given o) = false
+abbrev pub is_absent : Option Offset → Bool
+is_absent None = true
+is_absent (Some o) = false
 
 abbrev pub held_time : List ℕ → Time → ℕ → Bool
 held_time s t n = and (eqb t.hour 24) (and (is_absent t.offset) (held_at s n))

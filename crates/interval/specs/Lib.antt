@@ -1,4 +1,3 @@
 pub mod Rules
 pub mod Followed
 pub mod Once
-pub mod Answer

@@ -1,9 +1,11 @@
 -- An interval is read back from its spelling: how often, and then the sides by the alternative that they are of, since those before it fail.
-use Prim.Native.Nat.{ℕ}
+use Prim.Native.Nat.{ℕ, ◌+◌}
 use mathlib.Core.List.{List, [], ◌∷◌, ◌++◌, append_assoc}
 use mathlib.Core.Bool.{Bool, true}
 use mathlib.Core.Path.{◌≡◌, refl}
+use native.Mathlib.Omega.{arith}
 use lib.ListN.{length}
+use Rattle.std.specs.Prelude.{Some, None}
 use Rattle.types.specs.declared.Choices.{Choices}
 use Rattle.types.specs.declared.DateTime.{DateTime}
 use Rattle.types.specs.declared.Edition.{Edition}
@@ -13,16 +15,16 @@ use Rattle.types.specs.declared.IntervalRange.TheVariants as range
 use Rattle.types.specs.declared.Reading.{Reading}
 use Rattle.parser.specs.Reading.{lit, map, and}
 use Rattle.parser.specs.Answer.{recorded, Ended}
-use Rattle.parser.proofs.Fields.{and_first, and_second}
+use Rattle.parser.proofs.Fields.{and_first, and_second, and_right}
 use Rattle.datetime.proofs.Laws.{datetime_item}
 use Rattle.duration.proofs.Laws.{duration_item_lem}
 use Rattle.interval.specs.Rules.{closed, closed_end, closed_start, range_of, interval_of, interval_rule}
 use Rattle.interval.specs.Once.{interval}
-use Rattle.writing.specs.Spelling.{date_time_spelling, duration_spelling, range_spelling, interval_spelling}
-use Rattle.writing.specs.Writing.{Readable}
+use Rattle.writing.specs.Spelling.{date_time_spelling, duration_spelling, repetitions_spelling, range_spelling, interval_spelling}
+use Rattle.writing.specs.Writing.{Readable, measure, Measures}
 use Rattle.writing.proofs.Texts.{ReadAs, Refuses, lit_refuses_end, seq_reads, map_reads, alt_first, alt_second, whole}
 use Rattle.writing.proofs.Yields.{Yields, seq_yields, map_yields, alt_yields}
-use Rattle.writing.proofs.Laws.{Spells, readable, read_back}
+use Rattle.writing.proofs.Laws.{Spells, readable, read_back, measure_long, measure_none, none_measures, some_measures}
 use Rattle.time_writer.specs.Ranges.{time_given}
 use Rattle.datetime_writer.specs.Ranges.{date_time_given}
 use Rattle.duration_writer.specs.Ranges.{duration_given}
@@ -31,6 +33,7 @@ use Rattle.duration_writer.proofs.Within.{duration_yields}
 use Rattle.interval_writer.specs.Ranges.{repetitions_given, range_given, interval_given}
 use Rattle.interval_writer.proofs.Sides.{stamp_last, stamp_first_lem, stamp_reads, stamp_yields, no_duration, no_stamp, duration_first_lem, not_begun, sides_read, no_first, no_second, no_slash, sides_yield}
 use Rattle.interval_writer.proofs.Repetitions.{repetitions_read, repetitions_yield}
+use Rattle.interval_writer.proofs.Lengths.{interval_size}
 
 both : {a b : Bool} → a ≡ true → b ≡ true → and a b ≡ true
 both e f = rw (e, f)
@@ -108,6 +111,19 @@ interval_yields c = record { fact = (seq_yields _ repetitions_yield (λ r e. map
 
 pub interval_spells : (c : Choices) → Spells (interval c) interval_spelling (interval_given c)
 interval_spells c = record { back = λ x e. whole (interval_reads_lem c x e); ranges = λ x r. (interval_yields c).fact r.bytes 0 x r.count r.reads }
+
+-- ---- what is measured, by the parts
+
+module _ (c : Choices) (x : Interval) where
+  pub no_range_measures : measure (range_given c x.range) (length (range_spelling x.range)) ≡ None → Measures (interval c) x (interval_spelling x) None
+  unfolding interval_given
+  no_range_measures e = none_measures (interval_spells c) x (and_right (repetitions_given x.repetitions) (measure_none (range_given c x.range) _ e))
+
+  pub parts_measure : {f n : ℕ} → repetitions_given x.repetitions ≡ true → f ≡ length (repetitions_spelling x.repetitions) → measure (range_given c x.range) (length (range_spelling x.range)) ≡ Some n
+      → Measures (interval c) x (interval_spelling x) (Some (f + n))
+  parts_measure e g h =
+      let range = measure_long (range_given c x.range) h in
+      some_measures (interval_spells c) x (both_given_lem c x e range.0) (omega (arith, interval_size x, g, range.1))
 
 -- ---- the reading does not matter to what is written
 

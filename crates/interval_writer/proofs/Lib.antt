@@ -3,4 +3,3 @@ pub mod Repetitions
 pub mod Laws
 pub mod Lengths
 pub mod Longest
-pub mod Lent

@@ -1,19 +1,20 @@
 // The writer of intervals: how often one repeats, and its sides with `/` between them.
 #![tactic(auto)]
 
-ghost use Rattle.std.specs.Prelude.{◌+◌, ◌≤◌, true, ◌≡◌, length};
+ghost use Rattle.std.specs.Prelude.{◌≤◌, true, ◌≡◌, length};
+ghost use Rattle.types.specs.declared.Choices.{Choices};
 ghost use Rattle.interval.specs.Once.{interval};
 ghost use Rattle.text.specs.Text.{Puts};
 ghost use Rattle.writing.specs.Spelling.{repetitions_spelling, range_spelling, interval_spelling};
 ghost use Rattle.writing.specs.Writing.{measure, Measures, Writes};
 ghost use Rattle.interval_writer.specs.Ranges.{repetitions_given, range_given};
-ghost use Rattle.interval_writer.specs.Sides.{side_given, side_spelling, both_given, both_spelling};
+ghost use Rattle.interval_writer.specs.Sides.{side_given, side_spelling, sides_given, sides_spelling};
 
-use datetime_writer::{datetime_length, write_datetime};
-use duration_writer::{duration_length, write_duration};
+use datetime_writer::{datetime_length, put_datetime};
+use duration_writer::{duration_length, put_duration};
 use text::{put, put_byte, put_decimal};
 use types::{Choices, DateTime, Duration, Interval, IntervalRange, Repetitions};
-use writing::{Measured, Written, decimal_length};
+use writing::{Unwritten, decimal_length, room_for};
 
 // A side of an interval.
 #[derive(Clone, Copy)]
@@ -22,7 +23,28 @@ enum Side {
     Span(Duration),
 }
 
+// The sides of a range: one, or two with `/` between them.
+#[tactic(auto, unfolding(crate::specs::Ranges::range_given, writing::specs::Spelling::range_spelling))]
+fn sides_of(range: IntervalRange) -> (Side, Option<Side>)
+    ensures given { (c : Choices) → sides_given c result.0 result.1 ≡ range_given c range }
+    ensures spelled { sides_spelling result.0 result.1 ≡ range_spelling range }
+{
+    match range {
+        IntervalRange::Closed { start, end } => (Side::Stamp(start), Some(Side::Stamp(end))),
+        IntervalRange::ClosedEnd { duration, end } => (
+            Side::Span(duration),
+            Some(Side::Stamp(end)),
+        ),
+        IntervalRange::ClosedStart { start, duration } => (
+            Side::Stamp(start),
+            Some(Side::Span(duration)),
+        ),
+        IntervalRange::Open { duration } => (Side::Span(duration), None),
+    }
+}
+
 // The length of what says how often. Some reader gives every number of 32 bits.
+#[tactic(auto, unfolding(crate::specs::Ranges::repetitions_given, writing::specs::Spelling::repetitions_spelling), using(crate::proofs::Lengths::times_size))]
 fn repetitions_length(r: Repetitions) -> usize
     ensures size { result ≡ length (repetitions_spelling r) }
     ensures given { repetitions_given r ≡ true }
@@ -35,60 +57,40 @@ fn repetitions_length(r: Repetitions) -> usize
 }
 
 // The length of a side's spelling, where some reader gives the side.
-fn side_length(side: Side, choices: Choices) -> Measured
+fn side_length(side: Side, choices: Choices) -> Option<usize>
     ensures { result ≡ measure (side_given choices side) (length (side_spelling side)) }
 {
     match side {
         Side::Stamp(x) => datetime_length(x, choices),
-        Side::Span(d) => Measured::Length(duration_length(d)),
+        Side::Span(d) => Some(duration_length(d)),
     }
 }
 
-// That of two sides, where some reader gives both.
-fn sides_length(first: Side, second: Side, choices: Choices) -> Measured
-    ensures { result ≡ measure (both_given choices first second) (length (both_spelling first second)) }
-{
-    match side_length(first, choices) {
-        Measured::Length(n) => match side_length(second, choices) {
-            Measured::Length(m) => Measured::Length(n + 1 + m),
-            Measured::NoReader => Measured::NoReader,
-        },
-        Measured::NoReader => Measured::NoReader,
-    }
-}
-
-// That of all sides of a range.
-fn range_length(range: IntervalRange, choices: Choices) -> Measured
+// That of a range, where some reader gives all its sides.
+#[tactic(auto, using(crate::proofs::Lengths::side_measured))]
+fn range_length(range: IntervalRange, choices: Choices) -> Option<usize>
     ensures { result ≡ measure (range_given choices range) (length (range_spelling range)) }
 {
-    match range {
-        IntervalRange::Closed { start, end } => {
-            sides_length(Side::Stamp(start), Side::Stamp(end), choices)
-        }
-        IntervalRange::ClosedEnd { duration, end } => {
-            sides_length(Side::Span(duration), Side::Stamp(end), choices)
-        }
-        IntervalRange::ClosedStart { start, duration } => {
-            sides_length(Side::Stamp(start), Side::Span(duration), choices)
-        }
-        IntervalRange::Open { duration } => side_length(Side::Span(duration), choices),
+    let (first, second) = sides_of(range);
+    let front = side_length(first, choices)?;
+    match second {
+        None => Some(front),
+        Some(second) => Some(front + 1 + side_length(second, choices)?),
     }
 }
 
 // The length of the interval's spelling, where some reader gives the interval.
-pub fn interval_length(x: Interval, choices: Choices) -> Measured
+#[tactic(auto, using(crate::proofs::Laws::no_range_measures, crate::proofs::Laws::parts_measure, crate::proofs::Lengths::repetitions_most, crate::proofs::Lengths::range_measured))]
+pub fn interval_length(x: Interval, choices: Choices) -> Option<usize>
     ensures { Measures (interval choices) x (interval_spelling x) result }
 {
-    let repetitions = x.repetitions;
-    let range = x.range;
-    let front = repetitions_length(repetitions);
-    match range_length(range, choices) {
-        Measured::Length(n) => Measured::Length(front + n),
-        Measured::NoReader => Measured::NoReader,
-    }
+    let front = repetitions_length(x.repetitions);
+    let behind = range_length(x.range, choices)?;
+    Some(front + behind)
 }
 
 // Puts how often: nothing for once.
+#[tactic(auto, unfolding(writing::specs::Spelling::repetitions_spelling), using(text::proofs::Laws::puts_nothing))]
 fn put_repetitions(out: &mut [u8], at: usize, r: Repetitions) -> usize
     ensures { Puts (repetitions_spelling r) out.old at out.new result }
 {
@@ -103,64 +105,46 @@ fn put_repetitions(out: &mut [u8], at: usize, r: Repetitions) -> usize
     }
 }
 
-// Puts a side: its writer is lent what lies behind the place.
-fn put_side(out: &mut [u8], at: usize, side: Side, choices: Choices) -> usize
-    requires given { side_given choices side ≡ true }
-    requires room { at + length (side_spelling side) ≤ length out.old }
+// Puts a side: the writer of date-times is lent what lies behind the place.
+fn put_side(out: &mut [u8], at: usize, side: Side) -> usize
+    requires { at ≤ length out.old }
     ensures { Puts (side_spelling side) out.old at out.new result }
 {
     match side {
-        Side::Stamp(x) => at + write_datetime(x, choices, &mut out[at..]).count(),
-        Side::Span(d) => at + write_duration(d, &mut out[at..]).count(),
+        Side::Stamp(x) => at + put_datetime(&mut out[at..], x),
+        Side::Span(d) => put_duration(out, at, d),
     }
-}
-
-// Puts two sides, with `/` between them.
-fn put_sides(out: &mut [u8], at: usize, first: Side, second: Side, choices: Choices) -> usize
-    requires given { both_given choices first second ≡ true }
-    requires room { at + length (both_spelling first second) ≤ length out.old }
-    ensures { Puts (both_spelling first second) out.old at out.new result }
-{
-    let next = put_side(out, at, first, choices);
-    let next = put_byte(out, next, b'/');
-    put_side(out, next, second, choices)
 }
 
 // Puts all sides of a range.
-fn put_range(out: &mut [u8], at: usize, range: IntervalRange, choices: Choices) -> usize
-    requires given { range_given choices range ≡ true }
-    requires room { at + length (range_spelling range) ≤ length out.old }
+fn put_range(out: &mut [u8], at: usize, range: IntervalRange) -> usize
+    requires { at ≤ length out.old }
     ensures { Puts (range_spelling range) out.old at out.new result }
 {
-    match range {
-        IntervalRange::Closed { start, end } => {
-            put_sides(out, at, Side::Stamp(start), Side::Stamp(end), choices)
+    let (first, second) = sides_of(range);
+    let next = put_side(out, at, first);
+    match second {
+        None => next,
+        Some(second) => {
+            let next = put_byte(out, next, b'/');
+            put_side(out, next, second)
         }
-        IntervalRange::ClosedEnd { duration, end } => {
-            put_sides(out, at, Side::Span(duration), Side::Stamp(end), choices)
-        }
-        IntervalRange::ClosedStart { start, duration } => {
-            put_sides(out, at, Side::Stamp(start), Side::Span(duration), choices)
-        }
-        IntervalRange::Open { duration } => put_side(out, at, Side::Span(duration), choices),
     }
 }
 
+// Puts the interval's spelling at the front.
+fn put_interval(out: &mut [u8], x: Interval) -> usize
+    ensures { Puts (interval_spelling x) out.old 0 out.new result }
+{
+    let next = put_repetitions(out, 0, x.repetitions);
+    put_range(out, next, x.range)
+}
+
 // Writes the interval's spelling to the front of the buffer, for the edition that the caller names.
-pub fn write_interval(x: Interval, choices: Choices, buffer: &mut [u8]) -> Written
+pub fn write_interval(x: Interval, choices: Choices, buffer: &mut [u8]) -> Result<usize, Unwritten>
     ensures { Writes (interval choices) x (interval_spelling x) buffer.old buffer.new result }
 {
-    match interval_length(x, choices) {
-        Measured::Length(count) => {
-            if buffer.len() < count {
-                return Written::TooShort;
-            }
-            let repetitions = x.repetitions;
-            let range = x.range;
-            let at = put_repetitions(buffer, 0, repetitions);
-            put_range(buffer, at, range, choices);
-            Written::Text { count }
-        }
-        Measured::NoReader => Written::NoReader,
-    }
+    let count = room_for(interval_length(x, choices), buffer)?;
+    put_interval(buffer, x);
+    Ok(count)
 }

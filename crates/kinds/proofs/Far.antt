@@ -21,9 +21,10 @@ use Rattle.offset.proofs.Laws.{plus_too_few, plus_open}
 use Rattle.datetime.proofs.Laws.{datetime_too_few}
 use Rattle.duration.proofs.Laws.{duration_too_few}
 use Rattle.interval.proofs.Far as interval
+use Rattle.parser.specs.declared.answer.Read.{Read}
 use Rattle.kinds.specs.declared.answer.Kind.{Kind}
 use Rattle.kinds.specs.declared.answer.Kind.TheVariants as kind
-use Rattle.kinds.specs.declared.answer.Read.{Read}
+use Rattle.kinds.specs.declared.answer.Record.{Record}
 use Rattle.kinds.specs.Kinds.{rule_of, bound, Reads}
 use Rattle.kinds.specs.Far.{answer_of, Bytes, Near, OfFive, NoneShorter, Needs, farthest}
 use Rattle.kinds.proofs.Laws.{bytes, lawful, stable, open_where, empty_open}
@@ -87,11 +88,11 @@ within_ten kind.Duration five = omega arith
 within_ten (kind.Interval c) five = absurd five
 
 -- "every open verdict of the five kinds, in both editions and both readings, has a continuation of at most ten bytes that changes the answer"
-pub ten : (k : Kind) → OfFive k → (s : List ℕ) (r : Read) → Reads k s r → r.verdict ≡ Open → Near 10 k s
+pub ten : (k : Kind) → OfFive k → (s : List ℕ) (r : Read Record) → Reads k s r → r.verdict ≡ Open → Near 10 k s
 ten k five s r reads e = judged_near 10 k s (within_ten k five) (rw e at reads.verdict)
 
 -- W12: "Demand 3 includes this kind, with fourteen bytes in place of W11's ten"
-pub fourteen : (c : Choices) (s : List ℕ) (r : Read) → Reads (kind.Interval c) s r → r.verdict ≡ Open → Near 14 (kind.Interval c) s
+pub fourteen : (c : Choices) (s : List ℕ) (r : Read Record) → Reads (kind.Interval c) s r → r.verdict ≡ Open → Near 14 (kind.Interval c) s
 fourteen c s r reads e = judged_near 14 (kind.Interval c) s (omega arith) (rw e at reads.verdict)
 
 -- ---- and it is needed

@@ -1,11 +1,16 @@
--- The rule of each kind, under the choices that it is named with, as a reader of records of any kind, and what the code's answers tell.
-use Rattle.std.specs.Prelude.{ℕ, List, eqb}
-use Rattle.std.proofs.Math.Option.{Option, some, none}
-use Rattle.types.specs.Numbers.{number_of}
+-- The rule of each kind, under the choices that it is named with, as a reader of records of any kind, and what is promised of the code's answers.
+use Rattle.std.specs.Prelude.{ℕ, List, Result, ◌≡◌, eqb}
+use Rattle.std.specs.declared.option.Option.{Option}
+use Rattle.std.specs.declared.option.Option.TheVariants.{None, Some}
+use Rattle.std.specs.declared.result.Result.TheVariants.{Ok, Err}
 use Rattle.types.specs.Editions.{document01}
 use Rattle.types.specs.declared.Choices.{Choices}
 use Rattle.parser.specs.Reading.{Reader, map, pick}
-use Rattle.parser.specs.Answer.{Told, recorded, refused, Begins, Ended}
+use Rattle.parser.specs.Answer.{Begins, Ended}
+use Rattle.parser.specs.Told.{told}
+use Rattle.parser.specs.declared.answer.Counted.{Counted}
+use Rattle.parser.specs.declared.answer.Refused.{Refused}
+use Rattle.parser.specs.declared.answer.Read.{Read}
 use Rattle.date.specs.Rules.{date}
 use Rattle.time.specs.Rules.{time}
 use Rattle.offset.specs.Rules.{offset}
@@ -16,11 +21,6 @@ use Rattle.kinds.specs.declared.answer.Kind.{Kind}
 use Rattle.kinds.specs.declared.answer.Kind.TheVariants as kind
 use Rattle.kinds.specs.declared.answer.Record.{Record}
 use Rattle.kinds.specs.declared.answer.Record.TheVariants as record_of
-use Rattle.kinds.specs.declared.answer.Answer.{Answer}
-use Rattle.kinds.specs.declared.answer.Answer.TheVariants as answer
-use Rattle.kinds.specs.declared.answer.Read.{Read}
-use Rattle.kinds.specs.declared.answer.Letter.{Letter}
-use Rattle.kinds.specs.declared.answer.Letter.TheVariants.{Names, Unknown}
 
 abbrev pub rule_of : Kind → Reader Record
 rule_of kind.Date = map record_of.Date date
@@ -50,38 +50,36 @@ bound kind.Duration = 3
 bound (kind.Interval c) = 14
 
 -- "a letter `d`, `t`, `o`, `s` or `p` (date, time, offset, date-time, duration)", and W12's `i`
-abbrev pub letter_of : Choices → ℕ → Letter
+abbrev pub letter_of : Choices → ℕ → Option Kind
 letter_of c b =
-    pick (eqb b 100) (Names kind.Date)
-    (pick (eqb b 116) (Names (kind.Time c))
-    (pick (eqb b 111) (Names kind.Offset) (pick (eqb b 115) (Names (kind.Stamp c)) (pick (eqb b 112) (Names kind.Duration) (pick (eqb b 105) (Names (kind.Interval c)) Unknown)))))
+    pick (eqb b 100) (Some kind.Date)
+    (pick (eqb b 116) (Some (kind.Time c))
+    (pick (eqb b 111) (Some kind.Offset) (pick (eqb b 115) (Some (kind.Stamp c)) (pick (eqb b 112) (Some kind.Duration) (pick (eqb b 105) (Some (kind.Interval c)) None)))))
 
 -- the same where intervals have no letter: what breaks a text and a week's counts are asked of the five kinds before W12
-abbrev pub among_five : Letter → Letter
-among_five (Names (kind.Interval c)) = Unknown
-among_five (Names kind.Date) = Names kind.Date
-among_five (Names (kind.Time c)) = Names (kind.Time c)
-among_five (Names kind.Offset) = Names kind.Offset
-among_five (Names (kind.Stamp c)) = Names (kind.Stamp c)
-among_five (Names kind.Duration) = Names kind.Duration
-among_five Unknown = Unknown
+abbrev pub among_five : Option Kind → Option Kind
+among_five (Some (kind.Interval c)) = None
+among_five (Some kind.Date) = Some kind.Date
+among_five (Some (kind.Time c)) = Some (kind.Time c)
+among_five (Some kind.Offset) = Some kind.Offset
+among_five (Some (kind.Stamp c)) = Some (kind.Stamp c)
+among_five (Some kind.Duration) = Some kind.Duration
+among_five None = None
 
--- the paper's number, the record if there is one, and the count
-abbrev pub told : Answer → Told Record
-told (answer.Record r n) = recorded r n
-told (answer.Refused why n) = refused (number_of why) n
+-- an answer on a text of any kind
+abbrev pub Answer : Type 0
+Answer = Result (Counted Record) Refused
 
 -- what the two readers promise of their answers
-abbrev pub Reads : Kind → List ℕ → Read → Type 0
+abbrev pub Reads : Kind → List ℕ → Read Record → Type 0
 Reads k s r = Begins (bound k) (rule_of k) s (told r.answer) r.verdict
 
 abbrev pub Parses : Kind → List ℕ → Answer → Type 0
 Parses k s a = Ended (rule_of k) s (told a)
 
-abbrev pub some_as : {A B : Type 0} → (A → B) → Option A → Option B
-some_as f none = none
-some_as f (some a) = some (f a)
-
--- what is told of one kind's record, told of a record of any kind
-abbrev pub told_as : {A B : Type 0} → (A → B) → Told A → Told B
-told_as f t = record { number = t.number; value = some_as f t.value; count = t.count }
+-- the same answer, its record put among those of any kind by a conversion
+abbrev pub SameBy : {A B : Type 0} → (A → B → Type 0) → Result (Counted A) Refused → Result (Counted B) Refused → Type 0
+SameBy converts (Ok r) (Ok q) = converts r.value q.value × (q.count ≡ r.count)
+SameBy converts (Ok r) (Err e) = ⊥
+SameBy converts (Err e) (Ok q) = ⊥
+SameBy converts (Err e) (Err d) = d ≡ e

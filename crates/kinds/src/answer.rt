@@ -1,9 +1,8 @@
 // A kind as a value, and what its readers answer.
 ghost use Rattle.std.specs.Prelude.{◌≡◌};
-ghost use Rattle.types.specs.Numbers.{number_of};
-ghost use Rattle.kinds.specs.Kinds.{choices_in, among_five, told};
+ghost use Rattle.kinds.specs.Kinds.{choices_in, among_five};
 
-use types::{Choices, Date, DateTime, Duration, Interval, Offset, Refusal, Time, Verdict};
+use types::{Choices, Date, DateTime, Duration, Interval, Offset, Time};
 
 // A kind, and where its rule has choices, the caller's.
 #[derive(Clone, Copy)]
@@ -22,13 +21,19 @@ impl Kind {
         ensures { result ≡ choices_in self }
     {
         match self {
-            Kind::Date => Choices::DOCUMENT_01,
-            Kind::Time(choices) => choices,
-            Kind::Offset => Choices::DOCUMENT_01,
-            Kind::Stamp(choices) => choices,
-            Kind::Duration => Choices::DOCUMENT_01,
-            Kind::Interval(choices) => choices,
+            Kind::Time(choices) | Kind::Stamp(choices) | Kind::Interval(choices) => choices,
+            Kind::Date | Kind::Offset | Kind::Duration => Choices::DOCUMENT_01,
         }
+    }
+}
+
+// What a letter says, where intervals have no letter.
+pub fn among_five(kind: Option<Kind>) -> Option<Kind>
+    ensures { result ≡ among_five kind }
+{
+    match kind {
+        Some(Kind::Interval(_)) => None,
+        _ => kind,
     }
 }
 
@@ -43,74 +48,67 @@ pub enum Record {
     Interval(Interval),
 }
 
-// A record with the count of its bytes; or a refusal with the bytes that the form took, 0 unless bytes are left over.
-#[derive(Clone, Copy)]
-pub enum Answer {
-    Record { value: Record, count: usize },
-    Refused { why: Refusal, count: usize },
-}
+// What the readers of a kind answer, of any kind.
+pub type Answer = parser::answer::Answer<Record>;
 
-// The answer on a beginning, and whether a longer input could get another.
-#[derive(Clone, Copy)]
-pub struct Read {
-    pub answer: Answer,
-    pub verdict: Verdict,
-}
+pub type Read = parser::answer::Read<Record>;
 
-// What a letter says.
-#[derive(Clone, Copy)]
-pub enum Letter {
-    Names(Kind),
-    Unknown,
-}
+impl From<Date> for Record {
+    ghost use Rattle.kinds.specs.declared.answer.Record.TheVariants as record_of;
 
-impl Letter {
-    // The same where intervals have no letter.
-    pub fn among_five(self) -> Letter
-        ensures { result ≡ among_five self }
-    {
-        match self {
-            Letter::Names(kind) => match kind {
-                Kind::Interval(_) => Letter::Unknown,
-                Kind::Date => self,
-                Kind::Time(_) => self,
-                Kind::Offset => self,
-                Kind::Stamp(_) => self,
-                Kind::Duration => self,
-            },
-            Letter::Unknown => self,
-        }
+    ghost from_gives = { λ date r. r ≡ record_of.Date date };
+
+    fn from(date: Date) -> Record {
+        Record::Date(date)
     }
 }
 
-fn number_of(why: Refusal) -> u64
-    ensures { result ≡ number_of why }
-{
-    match why {
-        Refusal::NoForm => 1,
-        Refusal::TooBig => 2,
-        Refusal::LeftOver => 3,
+impl From<Time> for Record {
+    ghost use Rattle.kinds.specs.declared.answer.Record.TheVariants as record_of;
+
+    ghost from_gives = { λ time r. r ≡ record_of.Time time };
+
+    fn from(time: Time) -> Record {
+        Record::Time(time)
     }
 }
 
-impl Answer {
-    // 0 for a record, and else the paper's number of the refusal.
-    pub fn number(self) -> u64
-        ensures { result ≡ (told self).number }
-    {
-        match self {
-            Answer::Record { value: _, count: _ } => 0,
-            Answer::Refused { why, count: _ } => number_of(why),
-        }
-    }
+impl From<Offset> for Record {
+    ghost use Rattle.kinds.specs.declared.answer.Record.TheVariants as record_of;
 
-    // The bytes read; of a refusal those that the form took.
-    pub fn count(self) -> usize
-        ensures { result ≡ (told self).count }
-    {
-        match self {
-            Answer::Record { value: _, count } => count,
-            Answer::Refused { why: _, count } => count,
-        }
+    ghost from_gives = { λ offset r. r ≡ record_of.Offset offset };
+
+    fn from(offset: Offset) -> Record {
+        Record::Offset(offset)
+    }
+}
+
+impl From<DateTime> for Record {
+    ghost use Rattle.kinds.specs.declared.answer.Record.TheVariants as record_of;
+
+    ghost from_gives = { λ stamp r. r ≡ record_of.Stamp stamp };
+
+    fn from(stamp: DateTime) -> Record {
+        Record::Stamp(stamp)
+    }
+}
+
+impl From<Duration> for Record {
+    ghost use Rattle.kinds.specs.declared.answer.Record.TheVariants as record_of;
+
+    ghost from_gives = { λ duration r. r ≡ record_of.Duration duration };
+
+    fn from(duration: Duration) -> Record {
+        Record::Duration(duration)
+    }
+}
+
+impl From<Interval> for Record {
+    ghost use Rattle.kinds.specs.declared.answer.Record.TheVariants as record_of;
+
+    ghost from_gives = { λ interval r. r ≡ record_of.Interval interval };
+
+    fn from(interval: Interval) -> Record {
+        Record::Interval(interval)
     }
 }

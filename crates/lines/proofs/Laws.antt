@@ -9,10 +9,10 @@ use lib.Dec.{eqb}
 use lib.ListN.{length, take, drop, length-append, length-take, length-drop}
 use lib.Seq.{take_all, take-append_seam, drop-drop}
 use borrow.Author.Tests.{eqb-true, eqb-false, ne_eqb}
-use Rattle.lines.specs.declared.Ended.TheVariants.{At, Open}
+use Rattle.std.specs.declared.option.Option.TheVariants.{None, Some}
 use Rattle.lines.specs.Lines.{pick, Split, after, onto, split_by, split, lines, joined_with, joined, FreeOf, EachFreeOf, Free, EachFree}
 use Rattle.lines.specs.Lines.{place_from, place_of, end_at, clip, between, part_of, behind, is_end, Takes, Holds, GoesOn, Moves}
-use Rattle.lines.specs.declared.Ended.{Ended}
+use Rattle.std.specs.declared.option.Option.{Option}
 use Rattle.lines.specs.declared.Taken.{Taken}
 use Rattle.text.proofs.Laws.{puts_clips}
 
@@ -106,7 +106,7 @@ lines_append a b = rw (split_append a b) (append_assoc (split a).finished _ _)
 
 -- With the end that `place_of` finds, the line from `at` is the bytes up to it, and the other lines are those behind it.
 
-at≢open : (end : ℕ) → At end ≡ Open → ⊥
+at≢open : (end : ℕ) → Some end ≡ None → ⊥
 at≢open end h = let z : ◌≡◌ {A = ℕ} 0 1 = cc in omega arith
 
 pub record Ends (c at end : ℕ) (t : List ℕ) : Type 0 where
@@ -115,43 +115,43 @@ pub record Ends (c at end : ℕ) (t : List ℕ) : Type 0 where
   pub within : size < length t
   pub splits : split_by c t ≡ after (take size t) (split_by c (drop (suc size) t))
 
-pub end_from_ends : (c at end : ℕ) (t : List ℕ) → place_from c at t ≡ At end → Ends c at end t
+pub end_from_ends : (c at end : ℕ) (t : List ℕ) → place_from c at t ≡ Some end → Ends c at end t
 unfolding split_by
 end_from_ends c at end [] h = absurd (at≢open end (sym h))
 end_from_ends c at end (b ∷ t) h = step (eqb b c) refl (end_from_ends c (at + 1) end t)
   where
-    step : (u : Bool) → eqb b c ≡ u → (place_from c (at + 1) t ≡ At end → Ends c (at + 1) end t) → Ends c at end (b ∷ t)
+    step : (u : Bool) → eqb b c ≡ u → (place_from c (at + 1) t ≡ Some end → Ends c (at + 1) end t) → Ends c at end (b ∷ t)
     step true e ih =
-        let g : At at ≡ At end = rw e at h in
+        let g : Some at ≡ Some end = rw e at h in
         let p : at ≡ end = cc in
         record { size = 0; place = omega arith; within = omega arith; splits = rw e }
     step false e ih =
         let o = ih (rw e at h) in
         record { size = suc o.size; place = omega arith; within = omega arith; splits = rw (e, o.splits) }
 
-pub end_from_open : (c at : ℕ) (t : List ℕ) → place_from c at t ≡ Open → split_by c t ≡ record { finished = []; rest = t }
+pub end_from_open : (c at : ℕ) (t : List ℕ) → place_from c at t ≡ None → split_by c t ≡ record { finished = []; rest = t }
 unfolding split_by
 end_from_open c at [] h = refl
 end_from_open c at (b ∷ t) h = step (eqb b c) refl (end_from_open c (at + 1) t)
   where
-    step : (u : Bool) → eqb b c ≡ u → (place_from c (at + 1) t ≡ Open → split_by c t ≡ record { finished = []; rest = t })
+    step : (u : Bool) → eqb b c ≡ u → (place_from c (at + 1) t ≡ None → split_by c t ≡ record { finished = []; rest = t })
         → split_by c (b ∷ t) ≡ record { finished = []; rest = b ∷ t }
     step true e ih = absurd (at≢open at (rw e at h))
     step false e ih = rw (e, ih (rw e at h))
 
 -- A place that is found lies at or behind where it was looked for, and within the bytes.
-place_from_within : (c at end : ℕ) (t : List ℕ) → place_from c at t ≡ At end → (at ≤ end) × (end < at + length t)
+place_from_within : (c at end : ℕ) (t : List ℕ) → place_from c at t ≡ Some end → (at ≤ end) × (end < at + length t)
 place_from_within c at end [] h = absurd (at≢open end (sym h))
 place_from_within c at end (b ∷ t) h = step (eqb b c) refl (place_from_within c (at + 1) end t)
   where
-    step : (u : Bool) → eqb b c ≡ u → (place_from c (at + 1) t ≡ At end → (at + 1 ≤ end) × (end < at + 1 + length t)) → (at ≤ end) × (end < at + suc (length t))
+    step : (u : Bool) → eqb b c ≡ u → (place_from c (at + 1) t ≡ Some end → (at + 1 ≤ end) × (end < at + 1 + length t)) → (at ≤ end) × (end < at + suc (length t))
     step true e ih =
-        let g : At at ≡ At end = rw e at h in
+        let g : Some at ≡ Some end = rw e at h in
         let p : at ≡ end = cc in
         (omega arith, omega arith)
     step false e ih = let o = ih (rw e at h) in (omega arith, omega arith)
 
-pub place_within : (c : ℕ) (s : List ℕ) (at end : ℕ) → place_of c s at ≡ At end → (at ≤ end) × (end < length s)
+pub place_within : (c : ℕ) (s : List ℕ) (at end : ℕ) → place_of c s at ≡ Some end → (at ≤ end) × (end < length s)
 unfolding place_of
 place_within c s at end h =
     let o = place_from_within c at end (drop at s) h in
@@ -159,14 +159,14 @@ place_within c s at end h =
     (omega arith, omega arith)
 
 module _ (s : List ℕ) (at : ℕ) where
-  pub end_within : (end : ℕ) → end_at s at ≡ At end → (at ≤ end) × (end < length s)
+  pub end_within : (end : ℕ) → end_at s at ≡ Some end → (at ≤ end) × (end < length s)
   unfolding place_of
   end_within end h =
       let o = end_from_ends 10 at end (drop at s) h in
       let l = length-drop at s in
       (omega arith, omega arith)
 
-  pub split_end : (end : ℕ) → end_at s at ≡ At end
+  pub split_end : (end : ℕ) → end_at s at ≡ Some end
       → split (drop at s) ≡ after (take (end - at) (drop at s)) (split (drop (end + 1) s))
   unfolding place_of
   split_end end h =
@@ -175,7 +175,7 @@ module _ (s : List ℕ) (at : ℕ) where
       let next : end + 1 ≡ at + suc o.size = omega arith in
       rw (line, next, ← drop-drop (suc o.size) at s) o.splits
 
-  pub split_open : end_at s at ≡ Open → split (drop at s) ≡ record { finished = []; rest = drop at s }
+  pub split_open : end_at s at ≡ None → split (drop at s) ≡ record { finished = []; rest = drop at s }
   unfolding place_of
   split_open h = end_from_open 10 at (drop at s) h
 
@@ -214,7 +214,7 @@ module _ (block : List ℕ) (from : ℕ) where
     free : Free (between from end block)
     bytes : between from (end + 1) block ≡ between from end block ++ 10 ∷ []
 
-  line_of : (end : ℕ) → end_at block from ≡ At end → Line end
+  line_of : (end : ℕ) → end_at block from ≡ Some end → Line end
   line_of end h =
       let within = end_within block from end h in
       let x = take (end - from) (drop from block) in
@@ -226,7 +226,7 @@ module _ (block : List ℕ) (from : ℕ) where
         bytes = rw (← long) (ap (take (length (x ++ 10 ∷ []))) all ∙ take-append_seam _ _);
       }
 
-  rest_free : end_at block from ≡ Open → Free (drop from block)
+  rest_free : end_at block from ≡ None → Free (drop from block)
   rest_free h = rw (split_open block from h) at (split_free (drop from block)).1
 
 -- The law of lines, over all bytes so far: whoever holds the first bytes of the rest, and lets `take_line` take from a block behind these bytes, has
@@ -246,13 +246,13 @@ module _ {limit held from : ℕ} {block old new : List ℕ} {r : Taken} (takes :
   pub took_line : (bytes : List ℕ) → Holds limit bytes (take held old) → GoesOn r.ended limit bytes (bytes ++ between from r.used block) (take r.held new)
   took_line bytes h = rw (takes.ended, takes.used) (step (end_at block from) refl (taken_front bytes h))
     where
-      step : (e : Ended) → end_at block from ≡ e → take r.held new ≡ clip limit ((split bytes).rest ++ part_of e block from)
+      step : (e : Option ℕ) → end_at block from ≡ e → take r.held new ≡ clip limit ((split bytes).rest ++ part_of e block from)
           → GoesOn (is_end e) limit bytes (bytes ++ between from (behind e block from) block) (take r.held new)
-      step (At end) e front =
+      step (Some end) e front =
           let l = line_of block from end e in
           let s = line_ended bytes (between from end block) l.free in
           rw l.bytes record { line = (split bytes).rest ++ between from end block; finished = ap Split.finished s; rest = ap Split.rest s; kept = front }
-      step Open e front =
+      step None e front =
           let s = goes_on bytes (drop from block) (rest_free block from e) in
           let all : between from (from + (length block - from)) block ≡ drop from block = take_all (from + (length block - from) - from) (drop from block) (rw (length-drop from block) (omega arith)) in
           rw all (ap Split.finished s, rw s front)
@@ -260,6 +260,6 @@ module _ {limit held from : ℕ} {block old new : List ℕ} {r : Taken} (takes :
 pub taken_moves : {held from : ℕ} {block old new : List ℕ} {r : Taken} → Takes held block from old new r → Moves from (length block) r.used
 taken_moves {held} {from} {block} {old} {new} {r} takes = rw takes.used (step (end_at block from) refl)
   where
-    step : (e : Ended) → end_at block from ≡ e → Moves from (length block) (behind e block from)
-    step (At end) e = let w = end_within block from end e in record { on = omega arith; within = omega arith; some = λ h. omega arith }
-    step Open e = record { on = omega arith; within = omega arith; some = λ h. omega arith }
+    step : (e : Option ℕ) → end_at block from ≡ e → Moves from (length block) (behind e block from)
+    step (Some end) e = let w = end_within block from end e in record { on = omega arith; within = omega arith; some = λ h. omega arith }
+    step None e = record { on = omega arith; within = omega arith; some = λ h. omega arith }

@@ -1,4 +1,4 @@
--- `Laws`, `Held` and `Pinned` have what other crates may cite of lines; `Ends` serves the proof of `line_end`.
+-- `Laws`, `Held` and `Pinned` have what other crates may cite of lines; `Ends` serves the proofs of `place_of` and `take_line`.
 pub mod Laws
 pub mod Held
 pub mod Pinned

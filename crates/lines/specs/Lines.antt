@@ -1,8 +1,8 @@
 -- The lines of an input, defined from its bytes. A byte 10 ends a line, also an empty one. What stands after the last byte 10 is a line
 -- only where it is not empty.
 use Rattle.std.specs.Prelude.{ℕ, ◌+◌, ◌-◌, ◌≤◌, ◌<◌, Bool, true, false, List, [], ◌∷◌, ◌++◌, ◌≡◌, eqb, length, take, drop}
-use Rattle.lines.specs.declared.Ended.{Ended}
-use Rattle.lines.specs.declared.Ended.TheVariants.{At, Open}
+use Rattle.std.specs.declared.option.Option.{Option}
+use Rattle.std.specs.declared.option.Option.TheVariants.{None, Some}
 use Rattle.lines.specs.declared.Taken.{Taken}
 use Rattle.text.specs.Text.{Puts}
 
@@ -72,16 +72,16 @@ abbrev pub EachFree : List (List ℕ) → Type 0
 EachFree ls = EachFreeOf 10 ls
 
 -- the place of the first byte c of s, whose first byte stands at `at`
-abbrev pub place_from : ℕ → ℕ → List ℕ → Ended
-place_from c at [] = Open
-place_from c at (b ∷ s) = pick (eqb b c) (At at) (place_from c (at + 1) s)
+abbrev pub place_from : ℕ → ℕ → List ℕ → Option ℕ
+place_from c at [] = None
+place_from c at (b ∷ s) = pick (eqb b c) (Some at) (place_from c (at + 1) s)
 
 -- the place of the first byte c of s at or after `at`
-unfoldable pub place_of : ℕ → List ℕ → ℕ → Ended
+unfoldable pub place_of : ℕ → List ℕ → ℕ → Option ℕ
 place_of c s at = place_from c at (drop at s)
 
 -- a byte 10 ends a line
-abbrev pub end_at : List ℕ → ℕ → Ended
+abbrev pub end_at : List ℕ → ℕ → Option ℕ
 end_at s at = place_of 10 s at
 
 -- A program that knows a line from its first `limit` bytes keeps no more of it, so its memory has a bound and a line has none.
@@ -94,17 +94,17 @@ clip limit l = take limit l
 abbrev pub between : ℕ → ℕ → List ℕ → List ℕ
 between from to s = take (to - from) (drop from s)
 
-abbrev pub part_of : Ended → List ℕ → ℕ → List ℕ
-part_of (At end) s from = between from end s
-part_of Open s from = drop from s
+abbrev pub part_of : Option ℕ → List ℕ → ℕ → List ℕ
+part_of (Some end) s from = between from end s
+part_of None s from = drop from s
 
-abbrev pub behind : Ended → List ℕ → ℕ → ℕ
-behind (At end) s from = end + 1
-behind Open s from = from + (length s - from)
+abbrev pub behind : Option ℕ → List ℕ → ℕ → ℕ
+behind (Some end) s from = end + 1
+behind None s from = from + (length s - from)
 
-abbrev pub is_end : Ended → Bool
-is_end (At end) = true
-is_end Open = false
+abbrev pub is_end : Option ℕ → Bool
+is_end (Some end) = true
+is_end None = false
 
 -- that part is put behind what is held, as far as there is room
 pub record Takes (held : ℕ) (block : List ℕ) (from : ℕ) (old new : List ℕ) (r : Taken) : Type 0 where

@@ -8,13 +8,6 @@
 ghost use Rattle.std.specs.Prelude.{min, ◌≡◌};
 ghost use Rattle.lines.specs.Lines.{place_of, Takes};
 
-// Where a byte stands, such as the byte 10 that ends a line: at a place, or nowhere yet.
-#[derive(Clone, Copy)]
-pub enum Ended {
-    At { end: usize },
-    Open,
-}
-
 // How many bytes are held of a line, and the place behind what was taken of the block. `ended`: the line is finished.
 #[derive(Clone, Copy)]
 pub struct Taken {
@@ -27,48 +20,39 @@ pub struct Taken {
 pub fn lesser(a: usize, b: usize) -> usize
     ensures { result ≡ min a b }
 {
-    if a < b { a } else { b }
+    a.min(b)
 }
 
 // The place of the first byte `byte` at or after `at`. Past the end there is none.
-pub fn place_of(s: &[u8], at: usize, byte: u8) -> Ended
+#[tactic(auto, using(crate::proofs::Ends::place_past))]
+pub fn place_of(s: &[u8], at: usize, byte: u8) -> Option<usize>
     ensures { result ≡ place_of byte s.now at }
 {
-    let mut i = at;
-    while i < s.len() {
-        if s[i] == byte {
-            return Ended::At { end: i };
-        }
-        i += 1;
-    }
-    Ended::Open
+    let place = s.get(at..)?.iter().position(|&b| b == byte)?;
+    Some(at + place)
 }
 
 // Takes the bytes of a block from a place on, up to and with the first byte 10, or all of them where there is none, and puts those of the
 // line behind the `held` bytes of `kept`. What has no room there is taken and not kept.
+#[tactic(auto, using(crate::proofs::Laws::end_within, crate::proofs::Ends::takes_nothing))]
 pub fn take_line(kept: &mut [u8], held: usize, block: &[u8], from: usize) -> Taken
     ensures { Takes held block.now from kept.old kept.new result }
 {
-    let ended = place_of(block, from, 10);
-    match ended {
-        Ended::At { end } => Taken {
+    match place_of(block, from, 10) {
+        Some(end) => Taken {
             held: text::put(kept, held, &block[from..end]),
             used: end + 1,
             ended: true,
         },
-        Ended::Open => {
-            if block.len() <= from {
-                return Taken {
-                    held,
-                    used: from,
-                    ended: false,
-                };
-            }
-            Taken {
-                held: text::put(kept, held, &block[from..]),
-                used: block.len(),
-                ended: false,
-            }
-        }
+        None if from < block.len() => Taken {
+            held: text::put(kept, held, &block[from..]),
+            used: block.len(),
+            ended: false,
+        },
+        None => Taken {
+            held,
+            used: from,
+            ended: false,
+        },
     }
 }

@@ -4,7 +4,7 @@ use mathlib.Core.List.{List, [], ◌∷◌, ◌++◌}
 use mathlib.Core.Path.{◌≡◌, ◌∙◌}
 use native.Mathlib.Omega.{arith}
 use lib.ListN.{length, get_or, length-append}
-use Rattle.types.specs.declared.InSeconds.{InSeconds}
+use Rattle.std.specs.declared.option.Option.{Option}
 use Rattle.reply.proofs.Short.{text_short}
 use Rattle.words.specs.Words.{text_of}
 use Rattle.words.specs.Records.{seconds_word}
@@ -37,7 +37,7 @@ table_short t =
       row_short duration_name (get_or t 4 []),
     )
 
-pub week_short : (t : List (List ℕ)) (bad : ℕ) (sum : InSeconds) → length (week_text t bad sum) ≤ 1024
+pub week_short : (t : List (List ℕ)) (bad : ℕ) (sum : Option ℕ) → length (week_text t bad sum) ≤ 1024
 unfolding week_text
 week_short t bad sum =
     omega (

@@ -1,11 +1,12 @@
 -- A log that arrives in blocks: what is counted of all bytes so far.
 use Rattle.std.specs.Prelude.{ℕ, ◌-◌, ◌≤◌, min, Bool, List, [], ◌∷◌, ◌++◌, ◌≡◌, ltb, length, take}
 use Rattle.types.specs.Sums.{or_over}
-use Rattle.types.specs.declared.InSeconds.TheVariants.{Sum}
+use Rattle.std.specs.declared.option.Option.TheVariants.{Some}
 use Rattle.tally.specs.Tally.{with_line as tallied}
 use Rattle.lines.specs.Lines.{split, lines, between, Holds, Moves}
 use Rattle.text.specs.Text.{Puts}
-use Rattle.counts.specs.declared.Seen.{Seen}
+use Rattle.std.specs.declared.option.Option.{Option}
+use Rattle.counts.specs.declared.Counted.{Counted}
 use Rattle.counts.specs.Counts.{line_of, table_of, bad_of, seconds_in_all}
 use Rattle.counts.specs.Seen.{seen, counted, bad_counted, adding}
 use Rattle.logs.specs.declared.Week.{Week}
@@ -36,10 +37,10 @@ pub record After (limit : ℕ) (handed : List ℕ) (table : List (List ℕ)) (w 
   pub taken : w.taken ≡ length (input handed)
 
 abbrev pub started : Week
-started = record { bad = 0; tally = record { sum = Sum 0 }; held = 0; taken = 0 }
+started = record { bad = 0; tally = record { sum = Some 0 }; held = 0; taken = 0 }
 
 -- one line more, which ended
-abbrev pub with_line : Week → Seen → Week
+abbrev pub with_line : Week → Option Counted → Week
 with_line w l = record { bad = bad_counted l w.bad; tally = tallied w.tally (adding l); held = 0; taken = w.taken }
 
 -- From some bytes to these and some more, within the input's length. The buffer has room for as many bytes of a line as tell that it is too long,

@@ -1,7 +1,7 @@
 -- The seven lines that `week` prints.
 use Rattle.std.specs.Prelude.{ℕ, List, [], ◌∷◌, ◌++◌, get_or}
 use Rattle.types.specs.Sums.{or_over}
-use Rattle.types.specs.declared.InSeconds.{InSeconds}
+use Rattle.std.specs.declared.option.Option.{Option}
 use Rattle.words.specs.Words.{text_of}
 use Rattle.words.specs.Records.{seconds_word}
 use Rattle.words.specs.declared.word.Word.{Word}
@@ -44,7 +44,7 @@ table_text t =
     row_text date_name (get_or t 0 []) ++ row_text time_name (get_or t 1 []) ++ row_text offset_name (get_or t 2 []) ++ row_text stamp_name (get_or t 3 []) ++ row_text duration_name (get_or t 4 [])
 
 -- the table, the bad lines and the sum
-unfoldable pub week_text : List (List ℕ) → ℕ → InSeconds → List ℕ
+unfoldable pub week_text : List (List ℕ) → ℕ → Option ℕ → List ℕ
 week_text t bad sum = table_text t ++ line_text bad_name (Number bad ∷ []) ++ line_text seconds_name (seconds_word sum ∷ [])
 
 -- of some lines: each count is how many of them there are, and the sum is the exact one, or `over` where that is above the limit

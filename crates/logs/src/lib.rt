@@ -8,10 +8,8 @@ ghost use Rattle.std.specs.Prelude.{◌≤◌, [], ◌≡◌, length};
 ghost use Rattle.counts.specs.Counts.{table_of};
 ghost use Rattle.logs.specs.Log.{started, with_line, One, AllLines, passes, Steps, Finishes};
 
-use counts::Seen;
-use lines::lesser;
+use counts::Counted;
 use tally::Tally;
-use types::InSeconds;
 
 mod table;
 
@@ -40,29 +38,27 @@ pub fn start() -> Week
 {
     Week {
         bad: 0,
-        tally: Tally {
-            sum: InSeconds::Sum(0),
-        },
+        tally: Tally { sum: Some(0) },
         held: 0,
         taken: 0,
     }
 }
 
 // Its table.
-pub fn no_counts() -> [[u64; 4]; 5]
+#[tactic(auto, unfolding(counts::specs::Counts::how_many))]
+pub fn no_counts() -> counts::Table
     ensures { result ≡ table_of [] }
 {
     [[0u64; 4]; 5]
 }
 
 // The log with one line more, which ended.
-fn with_line(week: Week, line: Seen) -> Week
+fn with_line(week: Week, line: Option<Counted>) -> Week
     ensures { result ≡ with_line week line }
 {
-    let tally = week.tally;
     Week {
         bad: counts::count_bad(week.bad, line),
-        tally: tally::after_line(tally, counts::seconds(line)),
+        tally: tally::after_line(week.tally, counts::seconds(line)),
         held: 0,
         taken: week.taken,
     }
@@ -71,7 +67,7 @@ fn with_line(week: Week, line: Seen) -> Week
 // One line: takes it, and counts it where it ends.
 fn one_line(
     week: Week,
-    table: &mut [[u64; 4]; 5],
+    table: &mut counts::Table,
     kept: &mut [u8],
     block: &[u8],
     from: usize,
@@ -80,25 +76,24 @@ fn one_line(
     ensures { One week block.now from table.old kept.old table.new kept.new result }
 {
     let taken = lines::take_line(kept, week.held, block, from);
-    let n = taken.held;
+    let held = taken.held;
+    let used = taken.used;
     if taken.ended {
-        let line = counts::see(&kept[..n]);
+        let line = counts::see(&kept[..held]);
         *table = counts::count(*table, line);
         return Reached {
             week: with_line(week, line),
-            used: taken.used,
+            used,
         };
     }
-    let mut on = week;
-    on.held = n;
     Reached {
-        week: on,
-        used: taken.used,
+        week: Week { held, ..week },
+        used,
     }
 }
 
 // All lines of a block.
-fn all_lines(week: Week, table: &mut [[u64; 4]; 5], kept: &mut [u8], block: &[u8]) -> Week
+fn all_lines(week: Week, table: &mut counts::Table, kept: &mut [u8], block: &[u8]) -> Week
     requires { week.held ≤ length kept.old }
     ensures { AllLines week block.now table.old kept.old table.new kept.new result }
 {
@@ -113,38 +108,35 @@ fn all_lines(week: Week, table: &mut [[u64; 4]; 5], kept: &mut [u8], block: &[u8
 }
 
 // Takes a block, as far as it is input, and counts the lines that it ends.
-pub fn step(week: Week, table: &mut [[u64; 4]; 5], kept: &mut [u8], block: &[u8]) -> Week
+pub fn step(week: Week, table: &mut counts::Table, kept: &mut [u8], block: &[u8]) -> Week
     ensures { Steps week block.now table.old kept.old table.new kept.new result }
 {
-    let taken = lesser(week.taken, LIMIT);
-    let n = lesser(LIMIT - taken, block.len());
-    let mut so_far = week;
-    so_far.held = lesser(week.held, kept.len());
-    so_far.taken = taken + n;
-    all_lines(so_far, table, kept, &block[..n])
+    let taken = week.taken.min(LIMIT);
+    let n = (LIMIT - taken).min(block.len());
+    let ready = Week {
+        held: week.held.min(kept.len()),
+        taken: taken + n,
+        ..week
+    };
+    all_lines(ready, table, kept, &block[..n])
 }
 
 // Whether a block has bytes behind the input.
 pub fn is_past(week: Week, block: &[u8]) -> bool
     ensures { result ≡ passes week block.now }
 {
-    let taken = lesser(week.taken, LIMIT);
-    LIMIT - taken < block.len()
+    LIMIT - week.taken.min(LIMIT) < block.len()
 }
 
 // The end of the input: puts the table, with the last line, where no byte 10 ended it and it is not empty.
-pub fn finish(week: Week, table: [[u64; 4]; 5], kept: &[u8], out: &mut [u8]) -> usize
+pub fn finish(week: Week, table: counts::Table, kept: &[u8], out: &mut [u8]) -> usize
     ensures { Finishes week table kept.now out.old out.new result }
 {
-    let n = lesser(week.held, kept.len());
+    let n = week.held.min(kept.len());
     if n == 0 {
-        let tally = week.tally;
-        let sum = tally.sum;
-        return table::put_week(out, table, week.bad, sum);
+        return table::put_week(out, table, week.bad, week.tally.sum);
     }
     let line = counts::see(&kept[..n]);
     let last = with_line(week, line);
-    let tally = last.tally;
-    let sum = tally.sum;
-    table::put_week(out, counts::count(table, line), last.bad, sum)
+    table::put_week(out, counts::count(table, line), last.bad, last.tally.sum)
 }

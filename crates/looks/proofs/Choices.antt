@@ -1,7 +1,6 @@
 -- What is known of a choice once it is known where it fell.
 use mathlib.Core.Bool.{Bool, true, false}
 use mathlib.Core.Path.{◌≡◌, refl}
-use mathlib.Core.Logic.{◌⊎◌, inl, inr}
 use Rattle.parser.specs.Reading.{pick}
 
 -- a choice that did not fall on what it is not
@@ -16,8 +15,3 @@ picked_first false n e = absurd (n e)
 pub picked_neither : {A : Type 0} (t : Bool) {x y g : A} → (x ≡ g → ⊥) → (y ≡ g → ⊥) → pick t x y ≡ g → ⊥
 picked_neither true m n e = m e
 picked_neither false m n e = n e
-
--- one of two ways that the code came
-pub either : {A B C : Type 0} → A ⊎ B → (A → C) → (B → C) → C
-either (inl a) f g = f a
-either (inr b) f g = g b

@@ -1,3 +1,4 @@
 pub mod Choices
 pub mod Two
+pub mod Parts
 pub mod Thousandths

@@ -14,6 +14,9 @@ use Rattle.parser.specs.Read.{place_after}
 use Rattle.parser.proofs.Fields.{true≢false, and_first, and_second, digit_within, DigitAt, OtherAt}
 use Rattle.parser.proofs.Leaves.{digit_is_not}
 use Rattle.parser.proofs.General.{field_eager, says_past}
+use Rattle.std.specs.declared.option.Option.{Option}
+use Rattle.std.specs.declared.option.Option.TheVariants.{None, Some}
+use Rattle.std.proofs.lemmas.Option.{none-some}
 use Rattle.looks.specs.Digits.{two_number, two_digits}
 
 -- a byte that is a digit
@@ -39,7 +42,7 @@ pub record TwoIs (a b lo hi : ℕ) : Type 0 where
   pub second : is_digit b ≡ true
   pub inside : within lo hi (two_number a b) ≡ true
 
-pub two_some : (a b lo hi : ℕ) → TwoIs a b lo hi → two_digits a b lo hi ≡ two_number a b
+pub two_some : (a b lo hi : ℕ) → TwoIs a b lo hi → two_digits a b lo hi ≡ Some (two_number a b)
 unfolding two_digits
 two_some a b lo hi h = rw (h.first, h.second, h.inside)
 
@@ -59,26 +62,38 @@ all_three true true false e = absurd (true≢false (sym e))
 all_three true false z e = absurd (true≢false (sym e))
 all_three false y z e = absurd (true≢false (sym e))
 
-pub two_none : (a b lo hi : ℕ) → (TwoIs a b lo hi → ⊥) → 255 ≡ two_digits a b lo hi
+pub two_none : (a b lo hi : ℕ) → (TwoIs a b lo hi → ⊥) → None ≡ two_digits a b lo hi
 unfolding two_digits
 two_none a b lo hi h = go (and (is_digit a) (and (is_digit b) (within lo hi (two_number a b)))) refl
   where
-    go : (t : Bool) → and (is_digit a) (and (is_digit b) (within lo hi (two_number a b))) ≡ t → 255 ≡ pick t (two_number a b) 255
+    go : (t : Bool) → and (is_digit a) (and (is_digit b) (within lo hi (two_number a b))) ≡ t → None ≡ pick t (Some (two_number a b)) None
     go true e = let x = all_three (is_digit a) (is_digit b) (within lo hi (two_number a b)) e in absurd (h (record { first = x.0; second = x.1.0; inside = x.1.1 }))
     go false e = refl
 
-pub two_is : (a b lo hi : ℕ) → eqb (two_digits a b lo hi) 255 ≡ false → TwoIs a b lo hi
+-- what is known of a number that was read
+pub record TwoRead (a b lo hi v : ℕ) : Type 0 where
+  pub is : TwoIs a b lo hi
+  pub value : v ≡ two_number a b
+
+pub two_is : (a b lo hi v : ℕ) → two_digits a b lo hi ≡ Some v → TwoRead a b lo hi v
 unfolding two_digits
-two_is a b lo hi h = go (and (is_digit a) (and (is_digit b) (within lo hi (two_number a b)))) refl h
+two_is a b lo hi v h = go (and (is_digit a) (and (is_digit b) (within lo hi (two_number a b)))) refl h
   where
-    go : (t : Bool) → and (is_digit a) (and (is_digit b) (within lo hi (two_number a b))) ≡ t → eqb (pick t (two_number a b) 255) 255 ≡ false → TwoIs a b lo hi
-    go true e k = let x = all_three (is_digit a) (is_digit b) (within lo hi (two_number a b)) e in record { first = x.0; second = x.1.0; inside = x.1.1 }
-    go false e k = absurd (true≢false k)
+    go : (t : Bool) → and (is_digit a) (and (is_digit b) (within lo hi (two_number a b))) ≡ t → pick t (Some (two_number a b)) None ≡ Some v → TwoRead a b lo hi v
+    go true e k = let x = all_three (is_digit a) (is_digit b) (within lo hi (two_number a b)) e in record { is = record { first = x.0; second = x.1.0; inside = x.1.1 }; value = cc }
+    go false e k = absurd (none-some v k)
+
+-- it is at most 99
+pub two_most : (a b lo hi v : ℕ) → Some v ≡ two_digits a b lo hi → v ≤ 99
+two_most a b lo hi v h =
+    let t = two_is a b lo hi v (sym h) in
+    let x = two_ends t.is in
+    omega (arith, x.first.greatest, x.second.greatest, t.value)
 
 -- ---- fields
 
 -- where two bytes stand in an input
-abbrev pub two_at : List ℕ → ℕ → ℕ → ℕ → ℕ
+abbrev pub two_at : List ℕ → ℕ → ℕ → ℕ → Option ℕ
 two_at s at lo hi = two_digits (get_or s at 0) (get_or s (at + 1) 0) lo hi
 
 module _ (s : List ℕ) (at : ℕ) where
@@ -86,27 +101,29 @@ module _ (s : List ℕ) (at : ℕ) where
   digit_here a l e = record { inside = lt-ltb a (length s) l; is = e }
 
   -- a field of two
-  pub two_field : (lo hi : ℕ) → at + 1 < length s → eqb (two_at s at lo hi) 255 ≡ false → Says (field 2 lo hi) s at (got (two_at s at lo hi) (at + 2)) false
+  pub two_field : (lo hi v : ℕ) → at + 1 < length s → two_at s at lo hi ≡ Some v → Says (field 2 lo hi) s at (got v (at + 2)) false
   unfolding field digits_from digits_more
-  two_field lo hi l e =
-      let t = two_is (get_or s at 0) (get_or s (at + 1) 0) lo hi e in
-      let v = two_some (get_or s at 0) (get_or s (at + 1) 0) lo hi t in
+  two_field lo hi v l e =
+      let x = two_is (get_or s at 0) (get_or s (at + 1) 0) lo hi v e in
+      let t = x.is in
       let d = digit_here at (omega (arith, l)) t.first in
       let f = digit_here (at + 1) l t.second in
       let n : (0 * 10 + (get_or s at 0 - 48)) * 10 + (get_or s (at + 1) 0 - 48) ≡ two_number (get_or s at 0) (get_or s (at + 1) 0) = omega arith in
       let p : at + 1 + 1 ≡ at + 2 = omega arith in
-      record { found = simp (v, d.inside, d.is, f.inside, f.is, n, p, t.inside); more = simp (d.inside, d.is, f.inside, f.is) }
+      record { found = simp (x.value, d.inside, d.is, f.inside, f.is, n, p, t.inside); more = simp (d.inside, d.is, f.inside, f.is) }
 
   -- a field of four, from 100 on
-  pub four_field : at + 3 < length s → eqb (two_at s at 1 99) 255 ≡ false → eqb (two_at s (at + 2) 0 99) 255 ≡ false → Says (field 4 100 9999) s at (got (two_at s at 1 99 * 100 + two_at s (at + 2) 0 99) (at + 4)) false
+  pub four_field : (v w : ℕ) → at + 3 < length s → two_at s at 1 99 ≡ Some v → two_at s (at + 2) 0 99 ≡ Some w → Says (field 4 100 9999) s at (got (v * 100 + w) (at + 4)) false
   unfolding field digits_from digits_more
-  four_field l e k =
+  four_field v w l e k =
       let a = get_or s at 0 in
       let b = get_or s (at + 1) 0 in
       let c = get_or s (at + 2) 0 in
       let g = get_or s (at + 2 + 1) 0 in
-      let t = two_is a b 1 99 e in
-      let u = two_is c g 0 99 k in
+      let tv = two_is a b 1 99 v e in
+      let uw = two_is c g 0 99 w k in
+      let t = tv.is in
+      let u = uw.is in
       let x = two_ends t in
       let y = two_ends u in
       let d0 = digit_here at (omega (arith, l)) t.first in
@@ -116,32 +133,18 @@ module _ (s : List ℕ) (at : ℕ) where
       let p1 : at + 1 + 1 ≡ at + 2 = omega arith in
       let p2 : at + 2 + 1 + 1 ≡ at + 4 = omega arith in
       let n : (((0 * 10 + (a - 48)) * 10 + (b - 48)) * 10 + (c - 48)) * 10 + (g - 48) ≡ two_number a b * 100 + two_number c g = omega arith in
-      let w = within_is 100 9999 (two_number a b * 100 + two_number c g) (omega (arith, x.least)) (omega (arith, x.greatest, y.greatest)) in
-      record { found = simp (two_some a b 1 99 t, two_some c g 0 99 u, d0.inside, d0.is, p1, d1.inside, d1.is, d2.inside, d2.is, d3.inside, d3.is, p2, n, w); more = simp (d0.inside, d0.is, p1, d1.inside, d1.is, d2.inside, d2.is, d3.inside, d3.is) }
+      let r = within_is 100 9999 (two_number a b * 100 + two_number c g) (omega (arith, x.least)) (omega (arith, x.greatest, y.greatest)) in
+      record { found = simp (tv.value, uw.value, d0.inside, d0.is, p1, d1.inside, d1.is, d2.inside, d2.is, d3.inside, d3.is, p2, n, r); more = simp (d0.inside, d0.is, p1, d1.inside, d1.is, d2.inside, d2.is, d3.inside, d3.is) }
 
   -- no field of three where the third byte is no digit
-  pub three_cut : (lo hi lo' hi' : ℕ) → at + 1 < length s → eqb (two_at s at lo' hi') 255 ≡ false → OtherAt s (at + 2) → Says (field 3 lo hi) s at no false
+  pub three_cut : (lo hi lo' hi' v : ℕ) → at + 1 < length s → two_at s at lo' hi' ≡ Some v → OtherAt s (at + 2) → Says (field 3 lo hi) s at no false
   unfolding field digits_from digits_more
-  three_cut lo hi lo' hi' l e o =
-      let t = two_is (get_or s at 0) (get_or s (at + 1) 0) lo' hi' e in
+  three_cut lo hi lo' hi' v l e o =
+      let t = (two_is (get_or s at 0) (get_or s (at + 1) 0) lo' hi' v e).is in
       let d = digit_here at (omega (arith, l)) t.first in
       let f = digit_here (at + 1) l t.second in
       let p : at + 1 + 1 ≡ at + 2 = omega arith in
       record { found = simp (d.inside, d.is, f.inside, f.is, p, o.inside, o.is); more = simp (d.inside, d.is, f.inside, f.is, p, o.inside, o.is) }
-
--- it is at most 255 in any case
-two_most : (a b lo hi : ℕ) → two_digits a b lo hi ≤ 255
-unfolding two_digits
-two_most a b lo hi = go (is_digit a) (is_digit b) (within lo hi (two_number a b)) refl refl
-  where
-    go : (t u w : Bool) → is_digit a ≡ t → is_digit b ≡ u → pick (and t (and u w)) (two_number a b) 255 ≤ 255
-    go true true true e f = let x = is_digit_lem a e in let y = is_digit_lem b f in omega (arith, x.greatest, y.greatest)
-    go true true false e f = omega arith
-    go true false w e f = omega arith
-    go false u w e f = omega arith
-
-pub within_255 : (r a b lo hi : ℕ) → r ≡ two_digits a b lo hi → r ≤ 255
-within_255 r a b lo hi e = omega (arith, e, two_most a b lo hi)
 
 -- ---- single bytes
 
@@ -162,9 +165,9 @@ module _ (s : List ℕ) (at c : ℕ) (l : at < length s) (e : eqb (get_or s at 0
   past_byte = simp (lt-ltb at (length s) l, e)
 
 -- such a byte in front of two digits
-pub preceded_two : (s : List ℕ) (at c lo hi : ℕ) → at + 3 ≤ length s → eqb (get_or s at 0) c ≡ true → reach lo hi 2 0 ≡ true → eqb (two_digits (get_or s (at + 1) 0) (get_or s (at + 2) 0) lo hi) 255 ≡ false → Says (preceded_by c (field 2 lo hi)) s at (got (two_digits (get_or s (at + 1) 0) (get_or s (at + 2) 0) lo hi) (at + 3)) false
-preceded_two s at c lo hi l e r t =
+pub preceded_two : (s : List ℕ) (at c lo hi v : ℕ) → at + 3 ≤ length s → eqb (get_or s at 0) c ≡ true → reach lo hi 2 0 ≡ true → two_digits (get_or s (at + 1) 0) (get_or s (at + 2) 0) lo hi ≡ Some v → Says (preceded_by c (field 2 lo hi)) s at (got v (at + 3)) false
+preceded_two s at c lo hi v l e r t =
     let p : at + 1 + 1 ≡ at + 2 = omega arith in
     let q : at + 1 + 2 ≡ at + 3 = omega arith in
     says_past c (field 2 lo hi) (field_eager 2 lo hi (omega arith) r) s at (at + 1) _ false (past_byte s at c (omega (arith, l)) e)
-    (rw (p, q) at (two_field s (at + 1) lo hi (omega (arith, l)) (rw p t)))
+    (rw q at (two_field s (at + 1) lo hi v (omega (arith, l)) (rw p t)))

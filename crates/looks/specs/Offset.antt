@@ -3,6 +3,8 @@ use Rattle.std.specs.Prelude.{ℕ, ◌+◌, ◌-◌, List, Bool, true, false, le
 use Rattle.types.specs.Sums.{signed_offset, zero_offset}
 use Rattle.parser.specs.Reading.{and, pick}
 use Rattle.looks.specs.Digits.{two_digits}
+use Rattle.std.specs.declared.option.Option.{Option}
+use Rattle.std.specs.declared.option.Option.TheVariants.{None, Some}
 use Rattle.looks.specs.declared.PlainOffset.{PlainOffset}
 use Rattle.looks.specs.declared.PlainOffset.TheVariants.{End, Got, Other}
 
@@ -10,9 +12,11 @@ use Rattle.looks.specs.declared.PlainOffset.TheVariants.{End, Got, Other}
 abbrev pub plain_shift : Bool → ℕ → ℕ → ℕ → PlainOffset
 plain_shift minus h m n = pick (and minus (and (eqb h 0) (eqb m 0))) Other (Got (signed_offset minus h m) n)
 
--- the same, unless one is 255, no number
-abbrev pub shift_of : Bool → ℕ → ℕ → ℕ → PlainOffset
-shift_of minus h m n = pick (eqb h 255) Other (pick (eqb m 255) Other (plain_shift minus h m n))
+-- the same, where both are numbers
+abbrev pub shift_of : Bool → Option ℕ → Option ℕ → ℕ → PlainOffset
+shift_of minus (Some h) (Some m) n = plain_shift minus h m n
+shift_of minus (Some h) None n = Other
+shift_of minus None m n = Other
 
 unfoldable pub plain_signed : Bool → List ℕ → ℕ → PlainOffset
 plain_signed minus s at =

@@ -1,17 +1,16 @@
 -- Seconds and nanoseconds as differences of natural numbers.
-use Prim.Native.Nat.{ℕ, ◌+◌, ◌*◌, ◌-◌, ◌%◌, ◌/◌, ◌≤◌, ◌<◌}
+use Prim.Native.Nat.{ℕ, ◌+◌, ◌*◌, ◌-◌, ◌<◌}
 use mathlib.Core.Path.{◌≡◌, sym, ap, ap₂, ◌∙◌}
 use native.Mathlib.Omega.{arith}
-use lib.IntN.{ℤ, pos, neg_ℤ, ◌+ℤ◌, ◌-ℤ◌, ◌*ℤ◌}
-use lib.Signed.{mag}
+use lib.IntN.{ℤ, pos, ◌+ℤ◌, ◌-ℤ◌, ◌*ℤ◌}
 use Rattle.types.specs.Sums.{minutes_in_all}
-use Rattle.types.proofs.Signed.{plus_mag, neg_mag}
 use Rattle.types.specs.declared.Offset.{Offset}
 use Rattle.types.specs.declared.Time.{Time}
 use Rattle.calendar.specs.Far.{far_day}
 use Rattle.calendar.proofs.Integers.{◌⊖◌, minus, same, times, add_pos}
+use Rattle.calendar.proofs.Lifted.{let_down}
 use Rattle.moments.specs.Moments.{seconds_in, seconds_of, in_nanoseconds}
-use Rattle.moments.specs.Far.{far_second}
+use Rattle.moments.specs.Far.{far_second, counted}
 
 -- the seconds of a time on a day
 pub seconds_parted : (a b c d : ℕ) (t : Time) (o : Offset) → minutes_in_all o ≡ c ⊖ d → seconds_of (a ⊖ b) t o ≡ (a * 86400 + seconds_in t + d * 60) ⊖ (b * 86400 + c * 60)
@@ -22,22 +21,10 @@ seconds_parted a b c d t o e =
     ∙ minus (a * 86400 + seconds_in t) (b * 86400) (c * 60) (d * 60)
 
 -- the same in the code's numbers
-pub seconds_from : (day up : ℕ) (t : Time) (o : Offset) → minutes_in_all o ≡ up ⊖ 1000000000000 → up < 2000000000000 → seconds_of (day ⊖ far_day) t o ≡ (day * 86400 + t.hour * 3600 + t.minute * 60 + t.second + 120000000000000 - up * 60) ⊖ far_second
+pub seconds_from : (day up : ℕ) (t : Time) (o : Offset) → pos up ≡ minutes_in_all o +ℤ pos 1000000000000 → up < 2000000000000 → seconds_of (day ⊖ far_day) t o ≡ counted (day * 86400 + t.hour * 3600 + t.minute * 60 + t.second + 120000000000000 - up * 60)
 seconds_from day up t o e h =
-    seconds_parted day far_day up 1000000000000 t o e
+    seconds_parted day far_day up 1000000000000 t o (let_down (minutes_in_all o) 1000000000000 up (sym e))
     ∙ same (day * 86400 + seconds_in t + 60000000000000) (far_day * 86400 + up * 60) (day * 86400 + t.hour * 3600 + t.minute * 60 + t.second + 120000000000000 - up * 60) far_second (omega arith)
 
 pub nanoseconds_from : (a b n : ℕ) → in_nanoseconds (a ⊖ b) n ≡ (a * 1000000000 + n) ⊖ (b * 1000000000)
 nanoseconds_from a b n = ap (λ (z : ℤ). z +ℤ pos n) (times a b 1000000000) ∙ add_pos (a * 1000000000) (b * 1000000000) n
-
--- the second less the first, the nanoseconds counted five seconds up
-pub subtracts : (a m b n : ℕ) → m < 5000000000 → in_nanoseconds ((b + (n + 5000000000 - m) / 1000000000) ⊖ (a + 5)) ((n + 5000000000 - m) % 1000000000) ≡ in_nanoseconds (b ⊖ far_second) n -ℤ in_nanoseconds (a ⊖ far_second) m
-subtracts a m b n h =
-    let d = n + 5000000000 - m in
-    nanoseconds_from (b + d / 1000000000) (a + 5) (d % 1000000000)
-    ∙ same ((b + d / 1000000000) * 1000000000 + d % 1000000000) ((a + 5) * 1000000000) (b * 1000000000 + n + far_second * 1000000000) (far_second * 1000000000 + (a * 1000000000 + m)) (omega arith)
-    ∙ sym (ap₂ ◌-ℤ◌ (nanoseconds_from b far_second n) (nanoseconds_from a far_second m) ∙ minus (b * 1000000000 + n) (far_second * 1000000000) (a * 1000000000 + m) (far_second * 1000000000))
-
--- how large a difference gets
-pub difference_mag : (a b : ℕ) → mag (a ⊖ b) ≤ a + b + 1
-difference_mag a b = omega (arith, plus_mag (pos a) (neg_ℤ (pos b)), neg_mag b)

@@ -1,24 +1,25 @@
 -- How the code counts seconds, in natural numbers alone: from a second far back.
-use Rattle.std.specs.Prelude.{ℕ, ◌<◌, ◌≡◌, pos, ◌-ℤ◌}
+use Rattle.std.specs.Prelude.{ℕ, ◌<◌, ◌≡◌, ℤ, pos, ◌-ℤ◌, Result}
+use Rattle.std.specs.declared.result.Result.TheVariants.{Ok, Err}
 use Rattle.moments.specs.declared.Instant.{Instant}
-use Rattle.moments.specs.declared.Instant.TheVariants.{At, NoDay, NoOffset}
+use Rattle.moments.specs.declared.Fault.{Fault}
+use Rattle.moments.specs.declared.Fault.TheVariants.{Text, NoDay, NoOffset}
 use Rattle.moments.specs.Moments.{Moment, no_day, no_offset, at}
 
 -- calendar's first day, and before it a thousand billion minutes, more than any offset has
 abbrev pub far_second : ℕ
 far_second = 67828049508768000
 
-abbrev pub moment_told : Instant → Moment
-moment_told NoDay = no_day
-moment_told NoOffset = no_offset
-moment_told (At s n) = at (pos s -ℤ pos far_second) n
+abbrev pub counted : ℕ → ℤ
+counted s = pos s -ℤ pos far_second
 
+-- no number is too large for a difference
 abbrev pub Near : Instant → Type 0
-Near NoDay = Unit
-Near NoOffset = Unit
-Near (At s n) = s < 150000000000000000
+Near i = i.seconds < 150000000000000000
 
--- all that is promised of the instant that is told: it is the moment, and no number is too large for a difference
-pub record InstantOf (m : Moment) (r : Instant) : Type 0 where
-  pub is : moment_told r ≡ m
-  pub near : Near r
+-- all that is promised of the instant that is told: it is the moment, or says why there is none
+abbrev pub InstantOf : Moment → Result Instant Fault → Type 0
+InstantOf m (Ok i) = (m ≡ at (counted i.seconds) i.nanosecond) × Near i
+InstantOf m (Err NoDay) = m ≡ no_day
+InstantOf m (Err NoOffset) = m ≡ no_offset
+InstantOf m (Err (Text why)) = ⊥

@@ -1,18 +1,20 @@
 -- The moment of a date-time, and how far two are apart. The days are those of calendar's specs/Calendar.
-use Rattle.std.specs.Prelude.{ℕ, ◌+◌, ◌*◌, ◌<◌, ◌≡◌, ℤ, pos, ◌+ℤ◌, ◌-ℤ◌, ◌*ℤ◌}
+use Rattle.std.specs.Prelude.{ℕ, ◌+◌, ◌*◌, ◌<◌, ◌≡◌, ℤ, pos, ◌+ℤ◌, ◌-ℤ◌, ◌*ℤ◌, Result, IsOkAnd}
 use Rattle.std.proofs.Math.Option.{Option, some, none}
 use Rattle.types.specs.Numbers.{number_of}
 use Rattle.types.specs.Sums.{minutes_in_all}
 use Rattle.types.specs.declared.DateTime.{DateTime}
 use Rattle.types.specs.declared.Offset.{Offset}
 use Rattle.types.specs.declared.Time.{Time}
-use Rattle.types.specs.declared.TimeOffset.{TimeOffset}
-use Rattle.types.specs.declared.TimeOffset.TheVariants.{Absent, Given}
+use Rattle.std.specs.declared.option.Option as std_option
+use Rattle.std.specs.declared.option.Option.TheVariants.{None, Some}
+use Rattle.std.specs.declared.result.Result.TheVariants.{Ok, Err}
 use Rattle.calendar.specs.Calendar.{day_of}
 use Rattle.moments.specs.declared.Fault.{Fault}
 use Rattle.moments.specs.declared.Fault.TheVariants.{Text, NoDay, NoOffset}
 use Rattle.moments.specs.declared.Apart.{Apart}
-use Rattle.moments.specs.declared.Apart.TheVariants.{By, First, Second}
+use Rattle.moments.specs.declared.Faulty.{Faulty}
+use Rattle.moments.specs.declared.Faulty.TheVariants.{First, Second}
 
 -- ---- the moment of a date-time
 
@@ -30,10 +32,10 @@ pub data Moment : Type 0 where
   no_offset : Moment
   at : ℤ → ℕ → Moment
 
-abbrev pub placed : Option ℤ → TimeOffset → Time → Moment
+abbrev pub placed : Option ℤ → std_option.Option Offset → Time → Moment
 placed none o t = no_day
-placed (some day) Absent t = no_offset
-placed (some day) (Given o) t = at (seconds_of day t o) t.nanosecond
+placed (some day) None t = no_offset
+placed (some day) (Some o) t = at (seconds_of day t o) t.nanosecond
 
 abbrev pub moment_of : DateTime → Moment
 moment_of x = placed (day_of x.date) x.time.offset x.time
@@ -44,20 +46,17 @@ abbrev pub in_nanoseconds : ℤ → ℕ → ℤ
 in_nanoseconds s n = s *ℤ pos 1000000000 +ℤ pos n
 
 -- "second minus first exactly, as signed seconds and nanoseconds 0 to 999,999,999"
-pub record Exactly (a : ℤ) (m : ℕ) (b : ℤ) (n : ℕ) (r : Apart) : Type 0 where
-  pub seconds : ℤ
-  pub nanoseconds : ℕ
-  pub is : r ≡ By seconds nanoseconds
-  pub exact : in_nanoseconds seconds nanoseconds ≡ in_nanoseconds b n -ℤ in_nanoseconds a m
-  pub below : nanoseconds < 1000000000
+pub record Exactly (a : ℤ) (m : ℕ) (b : ℤ) (n : ℕ) (d : Apart) : Type 0 where
+  pub exact : in_nanoseconds d.seconds d.nanoseconds ≡ in_nanoseconds b n -ℤ in_nanoseconds a m
+  pub below : d.nanoseconds < 1000000000
 
 -- "for the first stamp before the second"
-abbrev pub Between : Moment → Moment → Apart → Type 0
-Between no_day b r = r ≡ First NoDay
-Between no_offset b r = r ≡ First NoOffset
-Between (at s m) no_day r = r ≡ Second NoDay
-Between (at s m) no_offset r = r ≡ Second NoOffset
-Between (at s m) (at t n) r = Exactly s m t n r
+abbrev pub Between : Moment → Moment → Result Apart Faulty → Type 0
+Between no_day b r = r ≡ Err (First NoDay)
+Between no_offset b r = r ≡ Err (First NoOffset)
+Between (at s m) no_day r = r ≡ Err (Second NoDay)
+Between (at s m) no_offset r = r ≡ Err (Second NoOffset)
+Between (at s m) (at t n) r = IsOkAnd r (Exactly s m t n)
 
 -- ---- the paper's numbers: 0, or the refusal's
 
@@ -66,7 +65,7 @@ fault_number (Text why) = number_of why
 fault_number NoDay = 8
 fault_number NoOffset = 9
 
-abbrev pub apart_number : Apart → ℕ
-apart_number (By s n) = 0
-apart_number (First f) = fault_number f
-apart_number (Second f) = fault_number f
+abbrev pub apart_number : Result Apart Faulty → ℕ
+apart_number (Ok d) = 0
+apart_number (Err (First f)) = fault_number f
+apart_number (Err (Second f)) = fault_number f

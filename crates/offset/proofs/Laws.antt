@@ -10,6 +10,13 @@ use lib.Dec.{ltb, eqb}
 use borrow.Author.Tests.{eqb-true, ne_eqb}
 use Rattle.types.specs.declared.Offset.{Offset}
 use Rattle.types.specs.Sums.{zero_offset}
+use Rattle.types.specs.Numbers.{number_of}
+use Rattle.std.specs.declared.result.Result.{Result}
+use Rattle.std.specs.declared.result.Result.TheVariants.{Ok, Err}
+use Rattle.parser.specs.declared.Miss.{Miss}
+use Rattle.parser.specs.declared.Miss.TheVariants as miss
+use Rattle.parser.specs.declared.Got.{Got}
+use Rattle.parser.specs.Read.{got_found, got_more}
 use Rattle.parser.specs.Reading.{Found, no, got, stop, Says, lit, seq, after, alt, map, or, and}
 use Rattle.parser.specs.Answer.{begun, Begins, verdict_of}
 use Rattle.parser.specs.Digits.{lowest, highest, reach, digits_more, field}
@@ -18,7 +25,7 @@ use Rattle.parser.proofs.Fields.{true≢false, and_right}
 use Rattle.parser.proofs.Places.{no≢got, Bounded, lit_fails}
 use Rattle.parser.proofs.Hopeful.{Anything}
 use Rattle.parser.proofs.Leaves.{From, above_zero, signed_at_end, signed_foreign}
-use Rattle.parser.proofs.Says.{says_alt_no, says_map}
+use Rattle.parser.proofs.Says.{says_alt_first, says_alt_got, says_alt_no, says_map}
 use Rattle.parser.proofs.Lawful.{In, byte, lawful_begins, TailIf, tail_where, map_tail, Item, map_item, tested_tail, seq_item}
 use Rattle.parser.proofs.Unstopped.{Unstopped}
 use Rattle.parser.proofs.Items.{lit_mark, signed_mark, or_item, preceded_item, field_item_in}
@@ -57,6 +64,14 @@ unfolding offset offset_zulu
 no_zulu s at h =
     let z : Says (lit 90) s at no ((lit 90).more s at) = record { found = sym (hour_no_zulu s at (sym h.more)); more = refl } in
     says_alt_no offset_hour s at offset_zulu true no ((lit 90).more s at) h (says_map (lit 90) s at (λ _. zero_offset) no ((lit 90).more s at) z)
+
+-- whatever the first alternative finds is kept, unless nothing stands there
+pub hour_kept : (s : List ℕ) (at : ℕ) (r : Result (Got Offset) Miss) → (r ≡ Err miss.Wrong → ⊥) → Says offset_hour s at (got_found r) (got_more r) → Says offset s at (got_found r) (got_more r)
+unfolding offset
+hour_kept s at (Ok g) n h = says_alt_got offset_hour s at offset_zulu g.value g.next g.more h
+hour_kept s at (Err miss.Wrong) n h = absurd (n refl)
+hour_kept s at (Err miss.Cut) n h = no_zulu s at h
+hour_kept s at (Err (miss.Stopped why)) n h = says_alt_first offset_hour s at offset_zulu (stop (number_of why)) false refl h
 
 -- ---- an hour or a minute can be completed above 0, so that a minus is allowed
 

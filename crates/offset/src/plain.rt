@@ -1,31 +1,24 @@
 // Offsets of the plain forms.
 ghost use Rattle.parser.specs.Reading.{Says};
+ghost use Rattle.parser.specs.Read.{got_found, got_more};
 ghost use Rattle.offset.specs.Rules.{offset};
-ghost use Rattle.offset.specs.Answer.{offset_found, offset_more};
 
-use crate::{OffsetFound, offset_at};
+use crate::offset_at;
 use looks::PlainOffset;
+use parser::{Found, Got, Miss};
+use types::Offset;
 
 // An offset at the very beginning. The plain forms are tried before the rule.
-pub fn offset_begun(s: &[u8]) -> OffsetFound
-    ensures { Says offset s.now 0 (offset_found result) (offset_more result) }
+pub fn offset_begun(s: &[u8]) -> Found<Offset>
+    ensures { Says offset s.now 0 (got_found result) (got_more result) }
 {
-    let plain = looks::plain_offset(s, 0);
-    match plain {
-        PlainOffset::Got { value, next } => OffsetFound::Got {
+    match looks::plain_offset(s, 0) {
+        PlainOffset::Got { value, next } => Ok(Got {
             value,
             next,
             more: false,
-        },
-        PlainOffset::End => OffsetFound::Cut,
-        PlainOffset::Other => {
-            // taken apart and made anew: else the plain answer, too, would go through memory
-            let found = offset_at(s, 0);
-            match found {
-                OffsetFound::Got { value, next, more } => OffsetFound::Got { value, next, more },
-                OffsetFound::Wrong => OffsetFound::Wrong,
-                OffsetFound::Cut => OffsetFound::Cut,
-            }
-        }
+        }),
+        PlainOffset::End => Err(Miss::Cut),
+        PlainOffset::Other => offset_at(s, 0),
     }
 }

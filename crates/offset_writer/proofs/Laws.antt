@@ -7,6 +7,7 @@ use native.Mathlib.Omega.{arith}
 use borrow.Author.Tests.{le-leb, leb-true, ne_eqb}
 use lib.Dec.{leb, eqb}
 use lib.IntN.{nat_abs}
+use lib.ListN.{length}
 use Rattle.types.specs.declared.Offset.{Offset}
 use Rattle.types.specs.Sums.{signed_offset, made}
 use Rattle.types.proofs.Laws.{Signed, one_sign_only, made_is_proper}
@@ -18,7 +19,8 @@ use Rattle.writing.specs.Spelling.{padded, sign_byte, shift_spelling, offset_spe
 use Rattle.writing.proofs.Texts.{ReadAs, lit_reads, lit_refuses, seq_reads, seq_refuses, map_reads, map_refuses, verify_reads, opt_reads, alt_first, alt_second, alt_refuses, whole}
 use Rattle.writing.proofs.Digits.{nat_abs_signed, field_reads}
 use Rattle.writing.proofs.Yields.{Yields, seq_yields, map_yields, opt_yields, alt_yields, verify_yields, preceded_yields, field_yields, anything, absent_within}
-use Rattle.writing.proofs.Laws.{Spells}
+use Rattle.writing.specs.Writing.{Measures, measure}
+use Rattle.writing.proofs.Laws.{Spells, given_measures}
 use Rattle.offset_writer.specs.Ranges.{offset_given}
 
 sign_reads : (minus : Bool) (x : List ℕ) → ReadAs signed (sign_byte minus ∷ []) x minus
@@ -79,3 +81,6 @@ offset_yields =
 
 pub offset_spells : Spells offset offset_spelling offset_given
 offset_spells = record { back = λ o e. whole (offset_reads_lem o [] e); ranges = λ o r. offset_yields.fact r.bytes 0 o r.count r.reads }
+
+pub offset_measures : (o : Offset) {t : Bool} {n : ℕ} → t ≡ offset_given o → n ≡ length (offset_spelling o) → Measures offset o (offset_spelling o) (measure t n)
+offset_measures o e f = given_measures offset_spells o e f

@@ -3,12 +3,6 @@ use Rattle.std.specs.Prelude.{Bool, leb, nat_abs}
 use Rattle.types.specs.declared.Offset.{Offset}
 use Rattle.types.specs.Sums.{same_sign}
 use Rattle.parser.specs.Reading.{and}
-use Rattle.writing.specs.Spelling.{is_minus}
-use Rattle.offset_writer.specs.declared.Shift.{Shift}
-
--- an offset's sign, and its hours and minutes without it
-abbrev pub shift_of : Offset → Shift
-shift_of o = record { minus = is_minus o; hours = nat_abs o.hours; minutes = nat_abs o.minutes; agree = same_sign o }
 
 unfoldable pub offset_given : Offset → Bool
 offset_given o = and (leb (nat_abs o.hours) 23) (and (leb (nat_abs o.minutes) 59) (same_sign o))

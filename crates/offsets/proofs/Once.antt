@@ -1,28 +1,15 @@
 -- No two answers meet one promise: the rule fixes number, record and count, and the continuations the verdict.
-use Prim.Native.Nat.{ℕ}
-use mathlib.Core.List.{List}
-use mathlib.Core.Path.{◌≡◌, sym, ap₂, ◌∙◌}
-use Rattle.types.specs.declared.Verdict.{Verdict}
-use Rattle.types.proofs.Laws.{number_once}
-use Rattle.parser.proofs.Verdict.{begins_once, recorded_once, refused_once, recorded_or_refused}
-use Rattle.offsets.specs.declared.OffsetAnswer.{OffsetAnswer}
-use Rattle.offsets.specs.declared.OffsetAnswer.TheVariants.{Record, Refused}
-use Rattle.offsets.specs.declared.OffsetRead.{OffsetRead}
-use Rattle.offsets.specs.Answer.{offset_told, offset_reads, offset_parses}
+use Rattle.std.specs.Prelude.{List, ℕ, ◌≡◌, Result}
+use Rattle.types.specs.declared.Offset.{Offset}
+use Rattle.parser.specs.declared.answer.Counted.{Counted}
+use Rattle.parser.specs.declared.answer.Refused.{Refused}
+use Rattle.parser.specs.declared.answer.Read.{Read}
+use Rattle.parser.proofs.Once as parser
+use Rattle.offsets.specs.Answer.{offset_reads, offset_parses}
 use Rattle.offset.specs.Rules.{offset}
 
-told_once : (a b : OffsetAnswer) → offset_told a ≡ offset_told b → a ≡ b
-told_once (Record v m) (Record w n) e = let x = recorded_once e in ap₂ Record x.0 x.1
-told_once (Record v m) (Refused r n) e = absurd (recorded_or_refused e)
-told_once (Refused r n) (Record v m) e = absurd (recorded_or_refused (sym e))
-told_once (Refused r m) (Refused q n) e = let x = refused_once _ _ m n e in ap₂ Refused (number_once r q x.0) x.1
+pub read_once : (s : List ℕ) (a b : Read Offset) → offset_reads s a → offset_reads s b → a ≡ b
+read_once s = parser.read_once offset s 2
 
-read_of : OffsetAnswer → Verdict → OffsetRead
-read_of a v = record { answer = a; verdict = v }
-
-pub read_once : (s : List ℕ) (a b : OffsetRead) → offset_reads s a → offset_reads s b → a ≡ b
-unfolding read_of
-read_once s a b h k = let x = begins_once 2 offset s _ _ _ _ h k in ap₂ read_of (told_once a.answer b.answer x.0) x.1
-
-pub parsed_once : (s : List ℕ) (a b : OffsetAnswer) → offset_parses s a → offset_parses s b → a ≡ b
-parsed_once s a b h k = told_once a b (h ∙ sym k)
+pub parsed_once : (s : List ℕ) (a b : Result (Counted Offset) Refused) → offset_parses s a → offset_parses s b → a ≡ b
+parsed_once s = parser.parsed_once offset s

@@ -1,20 +1,16 @@
--- The code's answers as the paper's, its number, the record if there is one, and the count; and what is promised of them.
-use Rattle.std.specs.Prelude.{ℕ, List}
-use Rattle.types.specs.Numbers.{number_of}
+-- What is promised of the answers.
+use Rattle.std.specs.Prelude.{ℕ, List, Result}
 use Rattle.types.specs.declared.Offset.{Offset}
-use Rattle.parser.specs.Answer.{Told, recorded, refused, Begins, Ended}
+use Rattle.parser.specs.Answer.{Begins, Ended}
+use Rattle.parser.specs.Told.{told}
+use Rattle.parser.specs.declared.answer.Counted.{Counted}
+use Rattle.parser.specs.declared.answer.Refused.{Refused}
+use Rattle.parser.specs.declared.answer.Read.{Read}
 use Rattle.offset.specs.Rules.{offset}
-use Rattle.offsets.specs.declared.OffsetAnswer.{OffsetAnswer}
-use Rattle.offsets.specs.declared.OffsetAnswer.TheVariants.{Record, Refused}
-use Rattle.offsets.specs.declared.OffsetRead.{OffsetRead}
-
-abbrev pub offset_told : OffsetAnswer → Told Offset
-offset_told (Record o n) = recorded o n
-offset_told (Refused r n) = refused (number_of r) n
 
 -- what the two readers promise of their answers
-abbrev pub offset_reads : List ℕ → OffsetRead → Type 0
-offset_reads s r = Begins 2 offset s (offset_told r.answer) r.verdict
+abbrev pub offset_reads : List ℕ → Read Offset → Type 0
+offset_reads s r = Begins 2 offset s (told r.answer) r.verdict
 
-abbrev pub offset_parses : List ℕ → OffsetAnswer → Type 0
-offset_parses s a = Ended offset s (offset_told a)
+abbrev pub offset_parses : List ℕ → Result (Counted Offset) Refused → Type 0
+offset_parses s a = Ended offset s (told a)

@@ -18,3 +18,6 @@ pub mod Stricter
 pub mod Unstopped
 pub mod TooFew
 pub mod Lent
+pub mod Missed
+pub mod Once
+pub mod Passed

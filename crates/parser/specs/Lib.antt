@@ -3,3 +3,4 @@ pub mod Digits
 pub mod Fields
 pub mod Answer
 pub mod Read
+pub mod Told

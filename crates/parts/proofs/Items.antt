@@ -2,20 +2,27 @@
 use Prim.Native.Nat.{ℕ, ◌+◌, ◌*◌, ◌-◌, ◌<◌, ◌≤◌}
 use mathlib.Core.List.{List, [], ◌∷◌}
 use mathlib.Core.Bool.{Bool, true, false, not}
-use mathlib.Core.Path.{◌≡◌, refl, sym, ap₂, ◌∙◌}
+use mathlib.Core.Path.{◌≡◌, refl, sym, ◌∙◌}
 use native.Mathlib.Omega.{arith}
 use lib.ListN.{length, get_or}
 use lib.Dec.{ltb, leb, eqb}
-use borrow.Author.Tests.{ltb-true, ltb-false, lt-ltb, le-ltb, le-leb, eqb-true, eq-eqb, not-false, not-true}
-use Rattle.parser.specs.Reading.{Found, no, got, stop, lit, pick, and, Says}
+use borrow.Author.Tests.{ltb-true, ltb-false, lt-ltb, le-ltb, le-leb, eqb-true, not-false, not-true}
+use Rattle.parser.specs.Reading.{no, got, stop, lit, pick, and, Says}
 use Rattle.parser.specs.Digits.{is_digit, number, number_from, run_at, of_run, at_the_end, at_most, limit, run_as, run}
 use Rattle.parser.proofs.Fields.{and_first, and_true, and_right, digit_within, DigitAt, OtherAt}
 use Rattle.parser.proofs.Runs.{run_step, run_other, run_end}
 use Rattle.parser.proofs.Places.{stop≢got, RunFound, run_found_lem}
-use Rattle.parts.specs.Items.{item_of, item_at, past, part_of, absent_part, part_by, part_at, item_behind, Tries}
+use Rattle.parts.specs.Items.{item_of, item_at, past, part_at, item_behind, Tries}
 use Rattle.parts.specs.declared.Item.{Item}
 use Rattle.parts.specs.declared.Tried.{Tried}
-use Rattle.parts.specs.declared.Item.TheVariants as item
+use Rattle.types.specs.declared.Refusal.{Refusal}
+use Rattle.types.specs.declared.Refusal.TheVariants.{NoForm, TooBig, LeftOver}
+use Rattle.types.specs.Numbers.{number_of}
+use Rattle.parser.specs.Read.{missed, cut}
+use Rattle.parser.specs.declared.Miss.{Miss}
+use Rattle.parser.specs.declared.Miss.TheVariants as miss
+use Rattle.std.specs.declared.result.Result.{Result}
+use Rattle.std.specs.declared.result.Result.TheVariants.{Ok, Err}
 
 -- ---- a run that has a value ends inside the input, or open at its end
 
@@ -41,42 +48,57 @@ run_stop s at r e = go (run_at s at) (leb (number (run_at s at)) limit) e
     go (b ∷ d) true e = absurd (stop≢got (sym e))
     go (b ∷ d) false e = (cc, and_right (not (ltb (at + length (b ∷ d)) (length s))) refl)
 
+-- an item by its fields
+abbrev pub item : ℕ → ℕ → ℕ → Item
+item v b n = record { value = v; letter = b; next = n }
+
 -- what the code makes of a run is what stands there
-pub item_is : (s : List ℕ) (at : ℕ) (f : Found ℕ) (m : Bool) → Says run s at f m → item_at s at ≡ item_of s f m
-unfolding item_at
-item_is s at f m h = rw (← h.found, ← h.more)
+module _ (s : List ℕ) (at : ℕ) where
+  pub missed_item : (m : Miss) → Says run s at (missed m) (cut m) → item_at s at ≡ Err m
+  unfolding item_at
+  missed_item miss.Wrong h = rw (← h.found, ← h.more)
+  missed_item miss.Cut h = rw (← h.found, ← h.more)
+  missed_item (miss.Stopped why) h = rw (← h.found, too_big why (run_stop s at (number_of why) (sym h.found)).0)
+    where
+      too_big : (r : Refusal) → number_of r ≡ 2 → r ≡ TooBig
+      too_big NoForm e = absurd (omega arith)
+      too_big TooBig e = refl
+      too_big LeftOver e = absurd (omega arith)
+
+  pub got_item : (v n : ℕ) (m : Bool) → Says run s at (got v n) m → item_at s at ≡ item_of s (got v n) m
+  unfolding item_at
+  got_item v n m h = rw (← h.found, ← h.more)
 
 -- ---- what stands at a place, by its first bytes
 
-pub end_item : (s : List ℕ) (at : ℕ) → length s ≤ at → item_at s at ≡ item.Cut
+pub end_item : (s : List ℕ) (at : ℕ) → length s ≤ at → item_at s at ≡ Err miss.Cut
 unfolding item_at run_as number_from
 end_item s at h = rw (run_end s at h, le-ltb (at + 0) (length s) (omega arith))
 
-pub other_item : (s : List ℕ) (at : ℕ) → OtherAt s at → item_at s at ≡ item.Wrong
+pub other_item : (s : List ℕ) (at : ℕ) → OtherAt s at → item_at s at ≡ Err miss.Wrong
 unfolding item_at run_as number_from
 other_item s at o = rw (run_other s at o, lt-ltb (at + 0) (length s) (omega (arith, ltb-true at (length s) o.inside)))
 
 -- a single digit
 module _ (s : List ℕ) (at : ℕ) (d : DigitAt s at) where
-  small : leb (0 * 10 + (get_or s at 0 - 48)) limit ≡ true
-  small = le-leb (0 * 10 + (get_or s at 0 - 48)) limit (omega (arith, (digit_within (get_or s at 0) d.is).1))
+  alone : 0 * 10 + (get_or s at 0 - 48) ≡ get_or s at 0 - 48
+  alone = omega arith
 
-  pub digit_item : OtherAt s (at + 1) → item_at s at ≡ item.Number (get_or s at 0 - 48) (get_or s (at + 1) 0) (at + 2)
+  small : leb (get_or s at 0 - 48) limit ≡ true
+  small = le-leb (get_or s at 0 - 48) limit (omega (arith, (digit_within (get_or s at 0) d.is).1))
+
+  pub digit_item : OtherAt s (at + 1) → item_at s at ≡ Ok (item (get_or s at 0 - 48) (get_or s (at + 1) 0) (at + 2))
   unfolding item_at run_as number_from
-  digit_item o = rw (run_step s at d, run_other s (at + 1) o, small, lt-ltb (at + 1) (length s) (ltb-true (at + 1) (length s) o.inside)) (ap₂ (λ (v n : ℕ). item.Number v (get_or s (at + 1) 0) n) value next)
-    where
-      value : 0 * 10 + (get_or s at 0 - 48) ≡ get_or s at 0 - 48
-      value = omega arith
+  digit_item o =
+      let next : at + 1 + 1 ≡ at + 2 = omega arith in
+      simp (run_step s at d, run_other s (at + 1) o, alone, small, lt-ltb (at + 1) (length s) (ltb-true (at + 1) (length s) o.inside), next)
 
-      next : at + 1 + 1 ≡ at + 2
-      next = omega arith
-
-  pub last_digit_item : length s ≤ at + 1 → item_at s at ≡ item.Cut
+  pub last_digit_item : length s ≤ at + 1 → item_at s at ≡ Err miss.Cut
   unfolding item_at run_as number_from
-  last_digit_item h = rw (run_step s at d, run_end s (at + 1) h, small, le-ltb (at + 1) (length s) h)
+  last_digit_item h = simp (run_step s at d, run_end s (at + 1) h, alone, small, le-ltb (at + 1) (length s) h)
 
 -- where a letter stands, no part begins
-pub no_letter : (c : ℕ) (s : List ℕ) (at : ℕ) → is_digit c ≡ false → (item_at s at ≡ item.Wrong → ⊥) → (lit c).reads s at ≡ no
+pub no_letter : (c : ℕ) (s : List ℕ) (at : ℕ) → is_digit c ≡ false → (item_at s at ≡ Err miss.Wrong → ⊥) → (lit c).reads s at ≡ no
 unfolding lit
 no_letter c s at d h = go (ltb at (length s)) (eqb (get_or s at 0) c) refl refl
   where
@@ -99,25 +121,19 @@ module _ (s : List ℕ) (at : ℕ) (d : DigitAt s at) (e : DigitAt s (at + 1)) w
   p : at + 1 + 1 ≡ at + 2
   p = omega arith
 
-  pub two_digit_item : OtherAt s (at + 2) → item_at s at ≡ item.Number value (get_or s (at + 2) 0) (at + 3)
+  pub two_digit_item : OtherAt s (at + 2) → item_at s at ≡ Ok (item value (get_or s (at + 2) 0) (at + 3))
   unfolding item_at run_as number_from
   two_digit_item o =
       let q : at + 2 + 1 ≡ at + 3 = omega arith in
       simp (run_step s at d, run_step s (at + 1) e, p, run_other s (at + 2) o, value_is, value_small, lt-ltb (at + 2) (length s) (ltb-true (at + 2) (length s) o.inside), q)
 
-  pub last_two_item : length s ≤ at + 2 → item_at s at ≡ item.Cut
+  pub last_two_item : length s ≤ at + 2 → item_at s at ≡ Err miss.Cut
   unfolding item_at run_as number_from
   last_two_item h = simp (run_step s at d, run_step s (at + 1) e, p, run_end s (at + 2) h, value_is, value_small, le-ltb (at + 2) (length s) h)
 
 -- ---- a part that is tried, by what stands at its place
 
-module _ (s : List ℕ) (at c : ℕ) (i : Item) (r : Tried) where
-  pub tries_there : (v b n : ℕ) → i ≡ item.Number v b n → b ≡ c → r.part ≡ part_of v n → r.item ≡ item_at s n → Tries s at c i r
-  tries_there v b n e l p k = record { part = rw (e, eq-eqb b c l) p; item = rw (e, eq-eqb b c l) k }
-
-  pub tries_absent : part_by i at c ≡ absent_part at → item_behind s c i ≡ i → (r.part ≡ absent_part at) × (r.item ≡ i) → Tries s at c i r
-  tries_absent e f (p, k) = record { part = p ∙ sym e; item = k ∙ sym f }
-
+module _ (s : List ℕ) (at c : ℕ) (i : Result Item Miss) (r : Tried) where
   pub tried_part : Tries s at c i r → i ≡ item_at s at → r.part ≡ part_at s at c
   tried_part t e = rw e at t.part
 
@@ -125,12 +141,10 @@ module _ (s : List ℕ) (at c : ℕ) (i : Item) (r : Tried) where
   pub tried_item : Tries s at c i r → i ≡ item_at s at → r.item ≡ item_at s r.part.next
   tried_item t e = rw t.part (t.item ∙ stands i e)
     where
-      stands : (j : Item) → j ≡ item_at s at → item_behind s c j ≡ item_at s (past c at j)
-      stands (item.Number v b n) e = letter (eqb b c)
+      stands : (j : Result Item Miss) → j ≡ item_at s at → item_behind s c j ≡ item_at s (past c at j)
+      stands (Ok j) e = letter (eqb j.letter c)
         where
-          letter : (u : Bool) → pick u (item_at s n) (item.Number v b n) ≡ item_at s (pick u n at)
+          letter : (u : Bool) → pick u (item_at s j.next) (Ok j) ≡ item_at s (pick u j.next at)
           letter true = refl
           letter false = e
-      stands item.TooBig e = e
-      stands item.Wrong e = e
-      stands item.Cut e = e
+      stands (Err m) e = e

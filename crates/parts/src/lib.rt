@@ -3,18 +3,16 @@
 #![tactic(auto)]
 
 ghost use Rattle.std.specs.Prelude.{◌≡◌};
-ghost use Rattle.parts.specs.Items.{item_at, absent_part, Tries};
+ghost use Rattle.parts.specs.Items.{item_at, Tries};
 
-use runs::Run;
+use parser::Miss;
 
-// What stands at a place: a number with the byte behind it; a number above the limit; no digit; or an end of the input
-// where a part could still be written.
+// A number and the byte behind it, and the place behind that byte.
 #[derive(Clone, Copy)]
-pub enum Item {
-    Number { value: u64, letter: u8, next: usize },
-    TooBig,
-    Wrong,
-    Cut,
+pub struct Item {
+    pub value: u64,
+    pub letter: u8,
+    pub next: usize,
 }
 
 // An optional part: its number, or 0, and the place after it, which lies further on exactly where the part is there.
@@ -28,61 +26,39 @@ pub struct Part {
 #[derive(Clone, Copy)]
 pub struct Tried {
     pub part: Part,
-    pub item: Item,
+    pub item: Result<Item, Miss>,
 }
 
 // The digit run at a place and the byte behind it.
-pub fn duration_item(s: &[u8], at: usize) -> Item
+pub fn duration_item(s: &[u8], at: usize) -> Result<Item, Miss>
     ensures { result ≡ item_at s.now at }
 {
-    let found = runs::take_digits(s, at);
-    match found {
-        Run::Got { value, next, more } => {
-            if more {
-                return Item::Cut;
-            }
-            Item::Number {
-                value,
-                letter: s[next],
-                next: next + 1,
-            }
-        }
-        Run::TooBig => Item::TooBig,
-        Run::Wrong => Item::Wrong,
-        Run::Cut => Item::Cut,
+    let run = runs::take_digits(s, at)?;
+    if run.more {
+        return Err(Miss::Cut);
     }
-}
-
-// The part of a letter is not there.
-fn not_there(at: usize, item: Item) -> Tried
-    ensures { (result.part ≡ absent_part at) × (result.item ≡ item) }
-{
-    Tried {
-        part: Part { value: 0, next: at },
-        item,
-    }
+    Ok(Item {
+        value: run.value,
+        letter: s[run.next],
+        next: run.next + 1,
+    })
 }
 
 // The part of a letter, where it is known what stands at the place: the run there is not read again.
-pub fn duration_part(s: &[u8], at: usize, letter: u8, item: Item) -> Tried
+pub fn duration_part(s: &[u8], at: usize, letter: u8, item: Result<Item, Miss>) -> Tried
     ensures { Tries s.now at letter item result }
 {
     match item {
-        Item::Number {
-            value,
-            letter: found,
-            next,
-        } => {
-            if found == letter {
-                return Tried {
-                    part: Part { value, next },
-                    item: duration_item(s, next),
-                };
-            }
-            not_there(at, item)
-        }
-        Item::TooBig => not_there(at, item),
-        Item::Wrong => not_there(at, item),
-        Item::Cut => not_there(at, item),
+        Ok(found) if found.letter == letter => Tried {
+            part: Part {
+                value: found.value,
+                next: found.next,
+            },
+            item: duration_item(s, found.next),
+        },
+        _ => Tried {
+            part: Part { value: 0, next: at },
+            item,
+        },
     }
 }

@@ -11,6 +11,7 @@ use lib.ListN.{length}
 use lib.Signed.{mag}
 use mir.Syntax.{w64}
 use mir.Val.{SFits}
+use Rattle.std.specs.Prelude.{Ok}
 use Rattle.types.specs.declared.Choices.{Choices}
 use Rattle.types.specs.declared.DateTime.{DateTime}
 use Rattle.parser.specs.Reading.{Found, no, got, stop, pick}
@@ -18,7 +19,7 @@ use Rattle.parser.specs.Answer.{recorded, refused, ended}
 use Rattle.datetime.specs.Rules.{date_time}
 use Rattle.calendar.proofs.Integers.{◌⊖◌, minus, of_pos, across}
 use Rattle.moments.specs.Moments.{in_nanoseconds, Exactly, Between}
-use Rattle.moments.specs.declared.Apart.TheVariants.{By}
+use Rattle.moments.specs.declared.Apart.{Apart}
 use Rattle.moments.proofs.Differences.{placed_both}
 use Rattle.moments.proofs.Laws.{nanoseconds_from}
 use Rattle.gaps.specs.Gaps.{wholly, Tells}
@@ -31,7 +32,7 @@ use Rattle.reach.proofs.Seconds.{start_second, InReach, moment_counted}
 
 -- what is read from a whole text lies in the ranges
 none≢some : {x : DateTime} → ◌≡◌ {A = Option DateTime} none (some x) → ⊥
-none≢some e = let z : ◌≡◌ {A = ℕ} 0 1 = cc in omega arith
+none≢some e = cc
 
 whole_given : (c : Choices) (s : List ℕ) (x : DateTime) → (wholly c s).value ≡ some x → date_time_given c x ≡ true
 whole_given c s x e = go ((date_time c).reads s 0) refl e
@@ -71,16 +72,14 @@ module _ {a b : ℤ} {m k : ℕ} (x : InReach a m) (y : InReach b k) where
   no_further (negsuc p) n h e = omega (arith, sums (negsuc p) n 0 (suc p) (of_neg p) e, x.seconds.below, y.seconds.above, x.nanoseconds)
 
 pub within_reach : WithinReach
-within_reach c s t d n h =
-    let b = both c s t d n h in
-    let p = placed_both _ _ d n b.between in
+within_reach c s t d h =
+    let b = both c s t d h in
+    let p = placed_both _ _ d b.between in
     let x = moment_counted c b.first p.first p.first_n (whole_given c s b.first b.first_is) p.first_is in
     let y = moment_counted c b.second p.second p.second_n (whole_given c t b.second b.second_is) p.second_is in
-    let exactly : Exactly p.first p.first_n p.second p.second_n (By d n) = subst₂ (λ v w. Between v w (By d n)) p.first_is p.second_is b.between in
-    let told = exactly.is in
-    let same-n : n ≡ exactly.nanoseconds = cc in
-    no_further x y d n (omega (arith, exactly.below)) p.exact
+    let exactly : Exactly p.first p.first_n p.second p.second_n d = subst₂ (λ v w. Between v w (Ok d)) p.first_is p.second_is b.between in
+    no_further x y d.seconds d.nanoseconds exactly.below p.exact
 
 -- so it fits 64 bits with a sign
-pub fits : (c : Choices) (s t : List ℕ) (d : ℤ) (n : ℕ) → Tells c s t (By d n) → SFits w64 d
-fits c s t d n h = record { sfits = omega (arith, within_reach c s t d n h) }
+pub fits : (c : Choices) (s t : List ℕ) (d : Apart) → Tells c s t (Ok d) → SFits w64 d.seconds
+fits c s t d h = record { sfits = omega (arith, within_reach c s t d h) }

@@ -14,7 +14,7 @@ use Rattle.types.specs.declared.DateTime.{DateTime}
 use Rattle.types.specs.declared.Edition.{Edition}
 use Rattle.types.specs.declared.Edition.TheVariants.{E2004, E2019}
 use Rattle.types.specs.declared.Time.{Time}
-use Rattle.types.specs.declared.TimeOffset.TheVariants.{Given}
+use Rattle.std.specs.declared.option.Option.TheVariants.{Some}
 use Rattle.parser.specs.Answer.{recorded}
 use Rattle.calendar.specs.Calendar.{day_of}
 use Rattle.calendar.proofs.Integers.{◌⊖◌}
@@ -28,16 +28,16 @@ use Rattle.time_writer.specs.Ranges.{time_offset_given, fraction_given, clock_gi
 use Rattle.date_writer.specs.Ranges.{date_given}
 use Rattle.datetime_writer.specs.Ranges.{date_time_given}
 use Rattle.datetime_writer.proofs.Laws.{date_time_spells, both_given_lem}
-use Rattle.reach.specs.Reach.{farthest, earliest, latest, Reached}
+use Rattle.reach.specs.Reach.{earliest, latest, Reached}
 use Rattle.reach.proofs.Days.{start_day, week_day_lem}
 
 -- ---- what they are read as, under either edition
 
 first : DateTime
-first = record { date = Week (negsuc 9998) 1 1; time = record { hour = 0; minute = 0; second = 0; nanosecond = 0; digits = 0; offset = Given (record { hours = pos 23; minutes = pos 59 }) } }
+first = record { date = Week (negsuc 9998) 1 1; time = record { hour = 0; minute = 0; second = 0; nanosecond = 0; digits = 0; offset = Some (record { hours = pos 23; minutes = pos 59 }) } }
 
 last : DateTime
-last = record { date = Week (pos 9999) 52 7; time = record { hour = 23; minute = 59; second = 60; nanosecond = 999999999; digits = 9; offset = Given (record { hours = negsuc 22; minutes = negsuc 58 }) } }
+last = record { date = Week (pos 9999) 52 7; time = record { hour = 23; minute = 59; second = 60; nanosecond = 999999999; digits = 9; offset = Some (record { hours = negsuc 22; minutes = negsuc 58 }) } }
 
 either_edition : (c : Choices) (t : Time) → time_given (record { edition = E2004; reading = c.reading }) t ≡ true → time_given (record { edition = E2019; reading = c.reading }) t ≡ true → time_given c t ≡ true
 either_edition c t old new = go c.edition
@@ -91,6 +91,6 @@ reached c =
     let a = spelled c first earliest (first_given c) first_spelled in
     let b = spelled c last latest (last_given c) last_spelled in
     record {
-      most = rw (a, b, first_moment, last_moment) (record { seconds = pos farthest; nanoseconds = 999999999; is = refl; exact = refl; below = omega arith });
-      least = rw (a, b, first_moment, last_moment) (record { seconds = negsuc farthest; nanoseconds = 1; is = refl; exact = refl; below = omega arith });
+      most = rw (a, b, first_moment, last_moment) (record { exact = refl; below = omega arith });
+      least = rw (a, b, first_moment, last_moment) (record { exact = refl; below = omega arith });
     }

@@ -14,8 +14,8 @@ use Rattle.types.specs.declared.Edition.{Edition}
 use Rattle.types.specs.declared.Edition.TheVariants.{E2004, E2019}
 use Rattle.types.specs.declared.Offset.{Offset}
 use Rattle.types.specs.declared.Time.{Time}
-use Rattle.types.specs.declared.TimeOffset.{TimeOffset}
-use Rattle.types.specs.declared.TimeOffset.TheVariants.{Absent, Given}
+use Rattle.std.specs.declared.option.Option as std_option
+use Rattle.std.specs.declared.option.Option.TheVariants.{None, Some}
 use Rattle.parser.proofs.Fields.{and_first, and_second}
 use Rattle.calendar.specs.Calendar.{day_of}
 use Rattle.calendar.proofs.Integers.{◌⊖◌, plus, same, times}
@@ -92,9 +92,9 @@ moment_counted c x s n g e = on (day_of x.date) refl e
     t : Time
     t = x.time
 
-    place : (day : ℤ) (o : TimeOffset) → InDays day → time_offset_given o ≡ true → placed (some day) o t ≡ at s n → InReach s n
-    place day Absent d f e = let z : ◌≡◌ {A = ℕ} 0 1 = cc in absurd (omega arith)
-    place day (Given o) d f e =
+    place : (day : ℤ) (o : std_option.Option Offset) → InDays day → time_offset_given o ≡ true → placed (some day) o t ≡ at s n → InReach s n
+    place day None d f e = cc
+    place day (Some o) d f e =
         let w = time_within c t (time_given_lem c x g) in
         let seconds : seconds_of day t o ≡ s = cc in
         let nanoseconds : t.nanosecond ≡ n = cc in
@@ -104,5 +104,5 @@ moment_counted c x s n g e = on (day_of x.date) refl e
         }
 
     on : (day : Option ℤ) → day_of x.date ≡ day → placed day t.offset t ≡ at s n → InReach s n
-    on none d e = let z : ◌≡◌ {A = ℕ} 0 1 = cc in absurd (omega arith)
+    on none d e = cc
     on (some day) d e = place day t.offset (in_days x.date (date_given_lem c x g) d) (time_within c t (time_given_lem c x g)).offset e

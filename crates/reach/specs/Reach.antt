@@ -1,8 +1,8 @@
 -- How large a difference of two texts gets.
-use Rattle.std.specs.Prelude.{ℕ, ◌≤◌, List, [], ◌∷◌, ℤ, pos, negsuc}
+use Rattle.std.specs.Prelude.{ℕ, ◌≤◌, List, [], ◌∷◌, pos, negsuc, Ok}
 use Rattle.std.specs.Int.Signed.{mag}
 use Rattle.types.specs.declared.Choices.{Choices}
-use Rattle.moments.specs.declared.Apart.TheVariants.{By}
+use Rattle.moments.specs.declared.Apart.{Apart}
 use Rattle.gaps.specs.Gaps.{Tells}
 
 -- "No wrapping: the range of the result is stated and shown to fit": from -631,107,763,081 to 631,107,763,080 seconds, since `mag` is k both of k
@@ -11,7 +11,7 @@ abbrev pub farthest : ℕ
 farthest = 631107763080
 
 abbrev pub WithinReach : Type 0
-WithinReach = (c : Choices) (s t : List ℕ) (d : ℤ) (n : ℕ) → Tells c s t (By d n) → mag d ≤ farthest
+WithinReach = (c : Choices) (s t : List ℕ) (d : Apart) → Tells c s t (Ok d) → mag d.seconds ≤ farthest
 
 -- Both ends are told of two texts. `-9999-W01-1T00:00:00+23:59`: 1 January of that year, a Monday
 unfoldable pub earliest : List ℕ
@@ -23,5 +23,5 @@ latest = 57 ∷ 57 ∷ 57 ∷ 57 ∷ 45 ∷ 87 ∷ 53 ∷ 50 ∷ 45 ∷ 55 ∷ 8
 
 -- `negsuc k` is -(k + 1)
 pub record Reached (c : Choices) : Type 0 where
-  pub most : Tells c earliest latest (By (pos farthest) 999999999)
-  pub least : Tells c latest earliest (By (negsuc farthest) 1)
+  pub most : Tells c earliest latest (Ok (record { seconds = pos farthest; nanoseconds = 999999999 }))
+  pub least : Tells c latest earliest (Ok (record { seconds = negsuc farthest; nanoseconds = 1 }))

@@ -6,15 +6,19 @@ use mathlib.Core.Path.{◌≡◌}
 use Rattle.types.specs.declared.Verdict.{Verdict}
 use Rattle.parser.specs.Answer.{Begins, Ended}
 use Rattle.kinds.specs.declared.answer.Kind.{Kind}
-use Rattle.kinds.specs.declared.answer.Answer.{Answer}
-use Rattle.kinds.specs.Kinds.{rule_of, bound, told}
+use Rattle.kinds.specs.declared.answer.Record.{Record}
+use Rattle.kinds.specs.Kinds.{rule_of, bound}
+use Rattle.parser.specs.Told.{told}
+use Rattle.parser.specs.declared.answer.Counted.{Counted}
+use Rattle.parser.specs.declared.answer.Refused.{Refused}
+use Rattle.std.specs.declared.result.Result.{Result}
 use Rattle.text.specs.Text.{Puts, decimal}
 use Rattle.words.specs.Words.{text_of}
 use Rattle.words.specs.Records.{head_words}
 use Rattle.reply.specs.Line.{record_or_dash, Answered, Gives}
 use Rattle.text.proofs.Laws.{then_puts}
 
-module _ (shown : Bool) (k : Kind) (s : List ℕ) (begun whole : Answer) (v : Verdict) where
+module _ (shown : Bool) (k : Kind) (s : List ℕ) (begun whole : Result (Counted Record) Refused) (v : Verdict) where
   pub answered : Begins (bound k) (rule_of k) s (told begun) v → Ended (rule_of k) s (told whole)
       → {b n w m : ℕ} → b ≡ (told begun).number → n ≡ (told begun).count → w ≡ (told whole).number → m ≡ (told whole).count
       → {h r : List ℕ} → h ≡ text_of (head_words n shown v w m) → r ≡ text_of (record_or_dash shown (told begun).value)

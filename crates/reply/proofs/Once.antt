@@ -5,8 +5,8 @@ use mathlib.Core.List.{List}
 use mathlib.Core.Path.{◌≡◌, sym, ap, ◌∙◌}
 use Rattle.parser.proofs.Verdict.{begins_once}
 use Rattle.kinds.specs.declared.answer.Kind.{Kind}
-use Rattle.kinds.specs.declared.answer.Letter.{Letter}
-use Rattle.kinds.specs.declared.answer.Letter.TheVariants.{Names, Unknown}
+use Rattle.std.specs.declared.option.Option.{Option}
+use Rattle.std.specs.declared.option.Option.TheVariants.{None, Some}
 use Rattle.kinds.specs.Kinds.{rule_of, bound}
 use Rattle.text.specs.Text.{Output, output}
 use Rattle.reply.specs.Line.{Answered, question_of, AnswersTo, AnswersLine, Gives}
@@ -17,9 +17,9 @@ answered_once shown k s t u a b =
     let whole : a.whole ≡ b.whole = a.ends ∙ sym b.ends in
     a.says ∙ rw (x.0, x.1, whole) (sym b.says)
 
-pub answers_once : (shown : Bool) (q : Letter) (s t u : List ℕ) → AnswersTo shown q s t → AnswersTo shown q s u → t ≡ u
-answers_once shown (Names k) s t u a b = answered_once shown k s t u a b
-answers_once shown Unknown s t u a b = a ∙ sym b
+pub answers_once : (shown : Bool) (q : Option Kind) (s t u : List ℕ) → AnswersTo shown q s t → AnswersTo shown q s u → t ≡ u
+answers_once shown (Some k) s t u a b = answered_once shown k s t u a b
+answers_once shown None s t u a b = a ∙ sym b
 
 pub line_once : (l t u : List ℕ) → AnswersLine l t → AnswersLine l u → t ≡ u
 line_once l t u a b = a.ends ∙ rw (answers_once true (question_of l) _ a.answer b.answer a.answers b.answers) (sym b.ends)

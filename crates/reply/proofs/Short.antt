@@ -12,8 +12,9 @@ use Rattle.types.specs.declared.Repetitions.{Repetitions}
 use Rattle.types.specs.declared.Repetitions.TheVariants.{Once, Unlimited, Times}
 use Rattle.types.specs.declared.IntervalRange.{IntervalRange}
 use Rattle.types.specs.declared.IntervalRange.TheVariants as range
-use Rattle.kinds.specs.declared.answer.Letter.{Letter}
-use Rattle.kinds.specs.declared.answer.Letter.TheVariants.{Names, Unknown}
+use Rattle.kinds.specs.declared.answer.Kind.{Kind}
+use Rattle.std.specs.declared.option.Option as std_option
+use Rattle.std.specs.declared.option.Option.TheVariants.{None, Some}
 use Rattle.kinds.specs.declared.answer.Record.{Record}
 use Rattle.kinds.specs.declared.answer.Record.TheVariants as record_of
 use Rattle.words.specs.declared.word.Name.{Name}
@@ -99,14 +100,14 @@ record_few shown (some v) = words_few shown v
 parts_short : (a b c : List ℕ) → length a ≤ 20 → length b ≤ 88 → length c ≤ 616 → length (a ++ (b ++ c)) ≤ 800
 parts_short a b c x y z = simp length-append (omega arith)
 
-pub answer_short : (shown : Bool) (q : Letter) (s t : List ℕ) → AnswersTo shown q s t → length t ≤ 800
-answer_short shown (Names k) s t a =
+pub answer_short : (shown : Bool) (q : std_option.Option Kind) (s t : List ℕ) → AnswersTo shown q s t → length t ≤ 800
+answer_short shown (Some k) s t a =
     let head = head_words a.begun.count shown a.verdict a.whole.number a.whole.count in
     let value = record_or_dash shown a.begun.value in
     rw a.says
     (parts_short (decimal a.begun.number) (text_of head) (text_of value) (digits_short 20 a.begun.number) (text_short head)
     (omega (arith, text_short value, record_few shown a.begun.value)))
-answer_short shown Unknown s t a = rw a (omega (arith, letters_short name.Unknown))
+answer_short shown None s t a = rw a (omega (arith, letters_short name.Unknown))
 
 pub line_short : (l t : List ℕ) → AnswersLine l t → length t ≤ 1024
 line_short l t a = rw a.ends (simp length-append (omega (arith, answer_short true (question_of l) _ a.answer a.answers)))

@@ -14,8 +14,8 @@ use Rattle.parser.specs.Answer.{Told, Begins, Ended}
 use Rattle.kinds.specs.declared.answer.Kind.{Kind}
 use Rattle.kinds.specs.declared.answer.Record.{Record}
 use Rattle.kinds.specs.declared.answer.Record.TheVariants as record_of
-use Rattle.kinds.specs.declared.answer.Letter.{Letter}
-use Rattle.kinds.specs.declared.answer.Letter.TheVariants.{Names, Unknown}
+use Rattle.std.specs.declared.option.Option as std_option
+use Rattle.std.specs.declared.option.Option.TheVariants.{None, Some}
 use Rattle.kinds.specs.Kinds.{rule_of, bound, letter_of, among_five}
 use Rattle.words.specs.declared.word.Name.TheVariants as name
 use Rattle.text.specs.Text.{Puts, decimal}
@@ -78,28 +78,28 @@ unfoldable pub head_of : List ℕ → Head
 head_of l = pick (has l 1 52) (head_from 2 E2004 l) (head_from 1 E2019 l)
 
 -- "a letter [..], a space, and a text of at most 200 bytes"
-unfoldable pub question_in : Head → List ℕ → Letter
+unfoldable pub question_in : Head → List ℕ → std_option.Option Kind
 question_in h l =
-    pick (leb h.from (length l)) (pick (leb (length l) (h.from + 200)) (pick (eqb (get_or l (h.from - 1) 0) 32) (letter_of h.choices (get_or l 0 0)) Unknown) Unknown)
-    Unknown
+    pick (leb h.from (length l)) (pick (leb (length l) (h.from + 200)) (pick (eqb (get_or l (h.from - 1) 0) 32) (letter_of h.choices (get_or l 0 0)) None) None)
+    None
 
-abbrev pub question_of : List ℕ → Letter
+abbrev pub question_of : List ℕ → std_option.Option Kind
 question_of l = question_in (head_of l) l
 
 abbrev pub text_in : List ℕ → List ℕ
 text_in l = drop (head_of l).from l
 
 -- "`why` has neither", nor the letter `i`
-abbrev pub plain_question : List ℕ → Letter
+abbrev pub plain_question : List ℕ → std_option.Option Kind
 plain_question l = among_five (question_in plain_head l)
 
 abbrev pub plain_text : List ℕ → List ℕ
 plain_text l = drop plain_head.from l
 
 -- "a line of any other form prints `unknown`"
-abbrev pub AnswersTo : Bool → Letter → List ℕ → List ℕ → Type 0
-AnswersTo shown (Names k) s t = Answered shown k s t
-AnswersTo shown Unknown s t = t ≡ letters_of name.Unknown
+abbrev pub AnswersTo : Bool → std_option.Option Kind → List ℕ → List ℕ → Type 0
+AnswersTo shown (Some k) s t = Answered shown k s t
+AnswersTo shown None s t = t ≡ letters_of name.Unknown
 
 abbrev pub Answers : Bool → List ℕ → List ℕ → Type 0
 Answers shown l t = AnswersTo shown (question_of l) (text_in l) t

@@ -1,37 +1,8 @@
--- A fraction by its places: what a digit is worth in each of them, and that the sum by places is the paper's number, padded with zeros.
-use Rattle.std.proofs.Common.{◌≡◌, ℕ, zero, suc, ◌+◌, ◌-◌, ◌*◌, ◌^◌, ◌<◌, ◌≤◌, List, [], ◌∷◌, ◌++◌, length, get_or, take, replicate, sym, refl, ap, ◌∙◌, add-zero, add-mul, mul-one, arith}
+-- A fraction by its places: that the sum by places is the paper's number, padded with zeros.
+use Rattle.std.proofs.Common.{◌≡◌, ℕ, zero, suc, ◌+◌, ◌-◌, ◌*◌, ◌^◌, ◌≤◌, List, [], ◌∷◌, ◌++◌, length, take, replicate, sym, refl, ap, ◌∙◌, add-zero, add-mul, mul-one, arith}
 use Rattle.parser.specs.Digits.{number_from, number, nanoseconds}
 use Rattle.parser.proofs.Runs.{number_grows}
 use Rattle.runs.proofs.Nanoseconds.{times_ten}
-
--- ---- the table of factors
-
-abbrev pub factors : List ℕ
-factors = 100000000 ∷ 10000000 ∷ 1000000 ∷ 100000 ∷ 10000 ∷ 1000 ∷ 100 ∷ 10 ∷ 1 ∷ []
-
--- the n powers of ten below the n-th, the greatest first
-powers : ℕ → List ℕ
-powers zero = []
-powers (suc n) = 10 ^ n ∷ powers n
-
--- one test, which computes, of all entries
-factors_computed : factors ≡ powers 9
-unfolding powers
-factors_computed = refl
-
-power_at : (n i : ℕ) → i < n → get_or (powers n) i 0 ≡ 10 ^ (n - 1 - i)
-unfolding powers
-power_at zero i h = absurd (omega arith)
-power_at (suc n) zero h = ap (λ (k : ℕ). 10 ^ k) (omega arith)
-power_at (suc n) (suc i) h =
-    let e : n - 1 - i ≡ suc n - 1 - suc i = omega arith in
-    power_at n i (omega arith) ∙ ap (λ (k : ℕ). 10 ^ k) e
-
--- entry i is ten to the power 8 - i
-pub factor_at : (i : ℕ) → i < 9 → get_or factors i 0 ≡ 10 ^ (8 - i)
-factor_at i h = ap (λ (l : List ℕ). get_or l i 0) factors_computed ∙ power_at 9 i h
-
--- ---- the sum by places
 
 -- the digits of d in k places, each worth ten to the power of the places behind it; where there is none it adds nothing
 unfoldable pub by_places : ℕ → List ℕ → ℕ

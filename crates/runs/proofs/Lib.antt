@@ -1,3 +1,4 @@
 pub mod Along
+pub mod Prefix
 pub mod Nanoseconds
 pub mod Factors

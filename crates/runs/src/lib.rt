@@ -2,108 +2,69 @@
 // and nothing is asked of a caller.
 #![tactic(auto)]
 
-ghost use Rattle.std.specs.Prelude.{◌≡◌, ◌+◌, ◌-◌, ◌*◌, ◌^◌, ◌<◌, ◌≤◌, length, nat_lt};
+ghost use Rattle.std.specs.Prelude.{◌≡◌, ◌+◌, ◌-◌, ◌*◌, ◌^◌, ◌<◌, ◌≤◌, ◌==◌, length, drop, MatchOption};
+ghost use Rattle.std.specs.List.{prefix_len};
 ghost use Rattle.parser.specs.Reading.{Says};
 ghost use Rattle.parser.specs.Digits.{limit, run, at_most, run_as, up_to_nine, fraction_of, fraction, run_at};
-ghost use Rattle.runs.specs.Read.{found_run, run_found, fraction_found, run_more};
+ghost use Rattle.parser.specs.Read.{got_found, got_more};
 
-use types::Fraction;
+use parser::{Found, Miss};
+use types::{Fraction, Refusal};
 
-// What a digit run finds. `more`: it reaches the end of the input, where a digit could still be added.
-#[derive(Clone, Copy)]
-pub enum Run {
-    Got { value: u64, next: usize, more: bool },
-    TooBig,
-    Wrong,
-    Cut,
-}
-
-// The largest number that a digit run may have is 18446744073709551615: all but its last digit, and that one.
-const FRONT: u64 = 1844674407370955161;
-
-const LAST: u64 = 5;
-
-// What a run from `at` to `next` is. `more`: the input ends there.
-fn found_run(at: usize, next: usize, value: u64, more: bool) -> Run
-    ensures { result ≡ found_run (nat_lt at next) more value next }
+// The number with one digit more: none where that is larger than any that a run may have, which is the largest of 64 bits.
+fn with_digit(value: u64, digit: u64) -> Option<u64>
+    ensures { MatchOption result (limit < value * 10 + digit) (λ n. (n ≡ value * 10 + digit) × (n ≤ limit)) }
 {
-    if at < next {
-        return Run::Got { value, next, more };
-    }
-    if more { Run::Cut } else { Run::Wrong }
-}
-
-// Whether one digit more makes a number larger than any that a run may have.
-fn is_past(value: u64, digit: u64) -> bool
-    requires { digit ≤ 9 }
-    ensures { result ≡ nat_lt limit (value * 10 + digit) }
-{
-    if value < FRONT {
-        return false;
-    }
-    if FRONT < value {
-        return true;
-    }
-    LAST < digit
+    value.checked_mul(10)?.checked_add(digit)
 }
 
 // A run of one digit or more, with any number of leading zeros.
-pub fn take_digits(s: &[u8], at: usize) -> Run
-    ensures { Says run s.now at (run_found result) (run_more result) }
+pub fn take_digits(s: &[u8], at: usize) -> Found<u64>
+    ensures { Says run s.now at (got_found result) (got_more result) }
 {
-    let mut value: u64 = 0;
-    let mut next = at;
-    while next < s.len() {
-        let digit = std::num::wrapping_sub_u64(s[next] as u64, 48);
-        if 9 < digit {
-            return found_run(at, next, value, false);
+    let mut value = 0;
+    for (taken, &b) in parser::leftover(s, at).iter().enumerate() {
+        if !b.is_ascii_digit() {
+            return parser::further(at, at + taken, value, false);
         }
-        if is_past(value, digit) {
-            return Run::TooBig;
-        }
-        value = value * 10 + digit;
-        next = next + 1;
+        value = with_digit(value, u64::from(b - b'0')).ok_or(Miss::Stopped(Refusal::TooBig))?;
     }
-    found_run(at, next, value, true)
+    parser::further(at, s.len(), value, true)
 }
 
-// A fraction of zeros, of any length: one other digit is too big.
-pub fn take_zeros(s: &[u8], at: usize) -> Run
-    ensures { Says (run_as fraction_of (at_most 0) 1) s.now at (fraction_found at result) (run_more result) }
+// The place after the zeros that stand from `at` on.
+fn zeros_end(s: &[u8], at: usize) -> usize
+    ensures { result ≡ at + prefix_len (λ b. b == 48) (drop at s.now) }
 {
-    let mut next = at;
-    while next < s.len() {
-        let b = s[next];
-        if b < 48 {
-            return found_run(at, next, 0, false);
-        }
-        if 57 < b {
-            return found_run(at, next, 0, false);
-        }
-        if 48 < b {
-            return Run::TooBig;
-        }
-        next = next + 1;
+    at + parser::leftover(s, at)
+        .iter()
+        .take_while(|b| **b == b'0')
+        .count()
+}
+
+// A fraction of zeros, of any length: another digit ends all reading, as no form.
+pub fn take_zeros(s: &[u8], at: usize) -> Found<Fraction>
+    ensures { Says (run_as fraction_of (at_most 0) 1) s.now at (got_found result) (got_more result) }
+{
+    let end = zeros_end(s, at);
+    let zero = fraction_of(0, end - at);
+    let Some(b) = s.get(end) else {
+        return parser::further(at, end, zero, true);
+    };
+    if b.is_ascii_digit() {
+        return Err(Miss::Stopped(Refusal::NoForm));
     }
-    found_run(at, next, 0, true)
+    parser::further(at, end, zero, false)
 }
 
 // The place after the digits that stand from `at` on.
 fn digits_end(s: &[u8], at: usize) -> usize
     ensures { result ≡ at + length (run_at s.now at) }
 {
-    let mut next = at;
-    while next < s.len() {
-        let b = s[next];
-        if b < 48 {
-            return next;
-        }
-        if 57 < b {
-            return next;
-        }
-        next = next + 1;
-    }
-    next
+    at + parser::leftover(s, at)
+        .iter()
+        .take_while(|b| b.is_ascii_digit())
+        .count()
 }
 
 // A fraction's first nine places, in billionths.
@@ -120,41 +81,29 @@ fn factor(place: usize) -> u32
 }
 
 // The fraction after its comma or point, in billionths: digits past the ninth are read and dropped.
-pub fn fraction_nanosecond(s: &[u8], at: usize) -> Run
-    ensures { Says fraction s.now at (fraction_found at result) (run_more result) }
+pub fn fraction_nanosecond(s: &[u8], at: usize) -> Found<Fraction>
+    ensures { Says fraction s.now at (got_found result) (got_more result) }
 {
-    let mut value: u64 = 0;
-    let mut next = at;
-    let mut place: usize = 0;
-    while place < 9 {
-        if s.len() <= next {
-            return found_run(at, next, value, true);
+    let mut nanosecond = 0;
+    for place in 0..9 {
+        let next = at + place;
+        let Some(&b) = s.get(next) else {
+            return parser::further(at, next, fraction_of(nanosecond, place), true);
+        };
+        if !b.is_ascii_digit() {
+            return parser::further(at, next, fraction_of(nanosecond, place), false);
         }
-        let b = s[next];
-        if b < 48 {
-            return found_run(at, next, value, false);
-        }
-        if 57 < b {
-            return found_run(at, next, value, false);
-        }
-        let worth = ((b - 48) as u32) * factor(place);
-        value = value + (worth as u64);
-        next = next + 1;
-        place = place + 1;
+        nanosecond += u32::from(b - b'0') * factor(place);
     }
-    let end = digits_end(s, next);
-    Run::Got {
-        value,
-        next: end,
-        more: s.len() <= end,
-    }
+    let end = digits_end(s, at + 9);
+    parser::further(at, end, fraction_of(nanosecond, end - at), s.len() <= end)
 }
 
 // How many of a fraction's digits are stored, of so many that were written.
 pub fn digits_stored(written: usize) -> u32
     ensures { result ≡ up_to_nine written }
 {
-    if 9 < written { 9 } else { written as u32 }
+    written.min(9) as u32
 }
 
 // A fraction of so many billionths, of which so many digits were written.
@@ -172,11 +121,9 @@ pub fn fraction_of(nanosecond: u32, written: usize) -> Fraction
 pub fn unit(digits: usize) -> u32
     ensures { result ≡ 10 ^ (9 - digits) }
 {
-    if digits == 0 {
-        return 1000000000;
+    match digits {
+        0 => 1000000000,
+        1..=9 => factor(digits - 1),
+        _ => 1,
     }
-    if 9 < digits {
-        return 1;
-    }
-    factor(digits - 1)
 }

@@ -1,12 +1,11 @@
 -- The bytes that stand in hexadecimal, a pair at a time; the question of a line; and what a buffer of fixed size makes of both.
-use Prim.Native.Nat.{ℕ, suc, ◌+◌, ◌*◌, ◌-◌, ◌≤◌, ◌<◌}
+use Prim.Native.Nat.{ℕ, ◌+◌, ◌*◌, ◌-◌, ◌≤◌, ◌<◌}
 use mathlib.Core.List.{List, [], ◌∷◌, ◌++◌, append-nil}
 use mathlib.Core.Bool.{false}
 use mathlib.Core.Path.{◌≡◌, refl, sym, ap, ◌∙◌}
-use native.Mathlib.Numerals.{add-one}
 use native.Mathlib.Omega.{arith}
 use lib.ListN.{length, take, drop, get_or, length-drop, length-take}
-use lib.Seq.{drop-cons, take-take, take_all, take_at}
+use lib.Seq.{take-take, take_all, take_at}
 use Rattle.lines.specs.Lines.{between}
 use Rattle.text.specs.Text.{output, puts, Puts}
 use Rattle.text.proofs.Laws.{puts_fits, puts_clips}
@@ -15,44 +14,30 @@ use Rattle.reply.proofs.Asked.{answers_clip}
 use Rattle.reply.proofs.Short.{answer_short}
 use Rattle.samples.specs.Samples.{nibble_of, unhex, question_in, Told, Tells, Compared}
 
-unhex_more : (hex : List ℕ) (i : ℕ) → i + 1 < length hex → unhex (drop i hex) ≡ (nibble_of (get_or hex i 0) * 16 + nibble_of (get_or hex (i + 1) 0)) ∷ unhex (drop (i + 2) hex)
-unhex_more hex i h =
-    let first = drop-cons hex i 0 (omega arith) in
-    let second = drop-cons hex (i + 1) 0 h in
-    let next : suc i ≡ i + 1 = sym (add-one i) in
-    let after : suc (i + 1) ≡ i + 2 = omega arith in
-    rw (first, next, second, after)
-
-unhex_none : (hex : List ℕ) (i : ℕ) → length hex ≤ i + 1 → unhex (drop i hex) ≡ []
-unhex_none hex i h = few (drop i hex) (rw (length-drop i hex) (omega arith))
-  where
-    few : (l : List ℕ) → length l ≤ 1 → unhex l ≡ []
-    few [] k = refl
-    few (a ∷ []) k = refl
-    few (a ∷ b ∷ l) k = absurd (omega arith)
-
 -- what is left to put, after some pairs, makes the same output as all of it from the start
-pub record Left (hex old : List ℕ) (at : ℕ) (out : List ℕ) (next i : ℕ) : Type 0 where
-  pub same : puts (unhex hex) (output old at) ≡ puts (unhex (drop i hex)) (output out next)
-  pub within : i ≤ length hex
-  pub size : length out ≡ length old
+pub record Left (hex old : List ℕ) (at : ℕ) (out : List ℕ) (next : ℕ) (left : List ℕ) : Type 0 where
+  pub same : puts (unhex hex) (output old at) ≡ puts (unhex left) (output out next)
 
-pub left_all : (hex old : List ℕ) (at : ℕ) → Left hex old at old at 0
-left_all hex old at = record { same = refl; within = omega arith; size = refl }
+pub left_all : (hex old : List ℕ) (at : ℕ) → Left hex old at old at hex
+left_all hex old at = record { same = refl }
 
-module _ {hex old out : List ℕ} {at next i : ℕ} (left : Left hex old at out next i) where
-  pub left_less : {new : List ℕ} {n : ℕ} → i + 1 < length hex → length new ≡ length out
-      → Puts ((nibble_of (get_or hex i 0) * 16 + nibble_of (get_or hex (i + 1) 0)) ∷ []) out next new n → Left hex old at new n (i + 2)
+module _ {hex old out : List ℕ} {at next : ℕ} {left : List ℕ} (l : Left hex old at out next left) where
+  pub left_less : (pair rest : List ℕ) {new : List ℕ} {n : ℕ} → left ≡ pair ++ rest → length pair ≡ 2
+      → Puts ((nibble_of (get_or pair 0 0) * 16 + nibble_of (get_or pair 1 0)) ∷ []) out next new n → Left hex old at new n rest
   unfolding puts
-  left_less h size one = record {
-    same = rw (unhex_more hex i h) at left.same ∙ ap (puts (unhex (drop (i + 2) hex))) (sym one.put);
-    within = omega arith;
-    size = size ∙ left.size;
-  }
+  left_less (a ∷ b ∷ []) rest e two one = record { same = rw e at l.same ∙ ap (puts (unhex rest)) (sym one.put) }
+  left_less [] rest e two one = absurd (omega arith)
+  left_less (a ∷ []) rest e two one = absurd (omega arith)
+  left_less (a ∷ b ∷ c ∷ pair) rest e two one = absurd (omega arith)
 
-  pub left_none : length hex ≤ i + 1 → Puts (unhex hex) old at out next
+  pub left_none : length left < 2 → Puts (unhex hex) old at out next
   unfolding puts
-  left_none h = record { put = sym (rw (unhex_none hex i h) at left.same) }
+  left_none h = record { put = sym (rw (few left h) at l.same) }
+    where
+      few : (s : List ℕ) → length s < 2 → unhex s ≡ []
+      few [] k = refl
+      few (a ∷ []) k = refl
+      few (a ∷ b ∷ s) k = absurd (omega arith)
 
 -- the question: up to a tab that stands too early, or head and text
 module _ (tab : ℕ) (l : List ℕ) where

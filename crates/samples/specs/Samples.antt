@@ -1,8 +1,8 @@
 -- The response to a line of a sample.
 use Rattle.std.specs.Prelude.{ℕ, ◌+◌, ◌*◌, ◌%◌, List, [], ◌∷◌, ◌++◌, false, ◌⊎◌, ◌≡◌, ltb, leb, length, take, drop}
 use Rattle.parser.specs.Reading.{pick}
-use Rattle.lines.specs.declared.Ended.{Ended}
-use Rattle.lines.specs.declared.Ended.TheVariants.{At, Open}
+use Rattle.std.specs.declared.option.Option.{Option}
+use Rattle.std.specs.declared.option.Option.TheVariants.{None, Some}
 use Rattle.lines.specs.Lines.{place_of, between}
 use Rattle.reply.specs.Line.{head_of, Answers}
 
@@ -47,13 +47,13 @@ pub record Compared (l : List ℕ) (tab : ℕ) (t : List ℕ) : Type 0 where
   pub tells : Tells ours (theirs tab l) t
 
 -- the place of the first tab; a line of more than 1,023 bytes is as one without
-unfoldable pub tab_of : List ℕ → Ended
-tab_of l = pick (leb (length l) 1023) (place_of 9 l 0) Open
+unfoldable pub tab_of : List ℕ → Option ℕ
+tab_of l = pick (leb (length l) 1023) (place_of 9 l 0) None
 
 -- a line without a tab is unknown
-abbrev pub ComparedAt : Ended → List ℕ → List ℕ → Type 0
-ComparedAt (At tab) l t = Compared l tab t
-ComparedAt Open l t = t ≡ unknown
+abbrev pub ComparedAt : Option ℕ → List ℕ → List ℕ → Type 0
+ComparedAt (Some tab) l t = Compared l tab t
+ComparedAt None l t = t ≡ unknown
 
 abbrev pub Compares : List ℕ → List ℕ → Type 0
 Compares l t = ComparedAt (tab_of l) l t

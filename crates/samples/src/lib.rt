@@ -11,7 +11,6 @@ ghost use Rattle.text.specs.Text.{Puts};
 ghost use Rattle.reply.specs.Line.{Gives};
 ghost use Rattle.samples.specs.Samples.{nibble_of, unhex, question_in, Tells, Told, Compared, tab_of, Compares, ComparesLine};
 
-use lines::Ended;
 use text::{put, put_byte};
 
 // The number of a hexadecimal digit.
@@ -19,7 +18,7 @@ fn nibble(b: u8) -> u8
     ensures value { result ≡ nibble_of b }
     ensures upper_bound { result < 16 }
 {
-    if b < 58 { b % 16 } else { (b % 16 + 9) % 16 }
+    if b <= b'9' { b % 16 } else { (b % 16 + 9) % 16 }
 }
 
 // Puts the bytes that stand in hexadecimal.
@@ -27,15 +26,14 @@ fn put_unhexed(out: &mut [u8], at: usize, hex: &[u8]) -> usize
     ensures { Puts (unhex hex.now) out.old at out.new result }
 {
     let mut next = at;
-    let mut i = 0;
-    while i + 1 < hex.len() {
-        next = put_byte(out, next, nibble(hex[i]) * 16 + nibble(hex[i + 1]));
-        i += 2;
+    for pair in hex.chunks_exact(2) {
+        next = put_byte(out, next, nibble(pair[0]) * 16 + nibble(pair[1]));
     }
     next
 }
 
 // Puts the question of a line whose tab stands at `tab`: its head, and its text as bytes.
+#[tactic(auto, using(text::proofs::Laws::puts_append, crate::proofs::Laws::early_question, crate::proofs::Laws::later_question))]
 fn put_question(out: &mut [u8], line: &[u8], tab: usize) -> usize
     requires { tab < length line.now }
     ensures { Puts (question_in tab line.now) out.old 0 out.new result }
@@ -62,7 +60,7 @@ fn put_ours(line: &[u8], tab: usize, out: &mut [u8]) -> usize
 fn put_compared(ours: &[u8], theirs: &[u8], out: &mut [u8], at: usize) -> usize
     ensures { Gives (Tells ours.now theirs.now) out.old at out.new result }
 {
-    if check::same(ours, theirs) {
+    if ours == theirs {
         return put(out, at, b"same");
     }
     let next = put(out, at, b"differs ");
@@ -80,23 +78,24 @@ fn put_sampled(line: &[u8], tab: usize, out: &mut [u8], at: usize) -> usize
 }
 
 // The place of a line's tab. A line of more than 1,023 bytes is taken for one without a tab.
-fn tab_of(line: &[u8]) -> Ended
+#[tactic(auto, unfolding(crate::specs::Samples::tab_of))]
+fn tab_of(line: &[u8]) -> Option<usize>
     ensures { result ≡ tab_of line.now }
 {
     if 1023 < line.len() {
-        return Ended::Open;
+        return None;
     }
-    lines::place_of(line, 0, 9)
+    lines::place_of(line, 0, b'\t')
 }
 
 // The response to a line without its end.
+#[tactic(auto, using(crate::proofs::Lines::tab_within))]
 fn compare(line: &[u8], out: &mut [u8], at: usize) -> usize
     ensures { Gives (Compares line.now) out.old at out.new result }
 {
-    let tab = tab_of(line);
-    match tab {
-        Ended::At { end } => put_sampled(line, end, out, at),
-        Ended::Open => put(out, at, b"unknown"),
+    match tab_of(line) {
+        Some(tab) => put_sampled(line, tab, out, at),
+        None => put(out, at, b"unknown"),
     }
 }
 
@@ -105,5 +104,5 @@ pub fn compare_line(line: &[u8], out: &mut [u8], at: usize) -> usize
     ensures { Gives (ComparesLine line.now) out.old at out.new result }
 {
     let next = compare(line, out, at);
-    put_byte(out, next, 10)
+    put_byte(out, next, b'\n')
 }

@@ -18,14 +18,15 @@ use Rattle.types.specs.declared.DateTime.{DateTime}
 use Rattle.parser.specs.Reading.{Reader}
 use Rattle.slots.specs.Slots.{date_slots, time_slots, date_time_slots}
 use Rattle.slots.proofs.Laws.{date_length_lem, time_length_lem}
-use Rattle.writing.specs.declared.Written.{Written}
+use Rattle.writing.specs.declared.Unwritten.{Unwritten}
+use Rattle.std.specs.declared.result.Result.{Result}
 use Rattle.writing.specs.Writing.{count_of, Readable, Leaves, Writes}
 use Rattle.writing.proofs.Laws.{Spells, readable, not_readable}
 use Rattle.held.specs.Held.{Made}
 use Rattle.slot_writers.specs.Promise.{Holds, LeavesIn, Tells, WritesFrom}
 
 -- the count is within the buffer
-pub count_within : {A : Type 0} {p : Reader A} {text : A → List ℕ} {given : A → Bool} → Spells p text given → {a : A} {old new : List ℕ} {w : Written} → Writes p a (text a) old new w → count_of w ≤ length old
+pub count_within : {A : Type 0} {p : Reader A} {text : A → List ℕ} {given : A → Bool} → Spells p text given → {a : A} {old new : List ℕ} {w : Result ℕ Unwritten} → Writes p a (text a) old new w → count_of w ≤ length old
 count_within {text = text} {given = given} k {a} {old} {w = w} h = go (given a) refl (ltb (length old) (length (text a))) refl
   where
     go : (t : Bool) → given a ≡ t → (s : Bool) → ltb (length old) (length (text a)) ≡ s → count_of w ≤ length old
@@ -36,7 +37,7 @@ count_within {text = text} {given = given} k {a} {old} {w = w} h = go (given a) 
 pub date_time_length : (x : DateTime) → length (date_time_slots x) ≡ 12
 date_time_length x = length-append (date_slots x.date) (time_slots x.time) ∙ omega (arith, date_length_lem x.date, time_length_lem x.time)
 
-told : {k m : ℕ} {l new : List ℕ} {before after : List ℤ} {w : Written} {r : ℕ} → Leaves k m l new w → Tells w before after r → LeavesIn k m l before after new r
+told : {k m : ℕ} {l new : List ℕ} {before after : List ℤ} {w : Result ℕ Unwritten} {r : ℕ} → Leaves k m l new w → Tells w before after r → LeavesIn k m l before after new r
 told h t = record { number = t.number ∙ h.number; count = rw h.count at t.count; buffer = h.buffer }
 
 -- a slot as the code reads it, and those behind it
@@ -58,7 +59,7 @@ pub few : {A : Type 0} {n : ℕ} {p : Reader A} {slots : A → List ℤ} {spelli
 few h = record { few = λ _. ((refl, refl), refl); unread = λ i. absurd (omega arith); short = λ i. absurd (omega arith); fits = λ i. absurd (omega arith) }
 
 module _ {A : Type 0} {n : ℕ} {p : Reader A} {slots : A → List ℤ} {spelling : A → List ℕ} {given : A → Bool} (k : Spells p spelling given) {m : ℕ} (size : (a : A) → length (slots a) ≡ m) {before after : List ℤ} {old : List ℕ} {r : ℕ} (room : n ≤ length before) where
-  pub wrote : {a : A} {new : List ℕ} {w : Written} → Made given slots (take m (drop 2 before)) a → Writes p a (spelling a) old new w → Tells w before after r → WritesFrom n p slots spelling before after old new r
+  pub wrote : {a : A} {new : List ℕ} {w : Result ℕ Unwritten} → Made given slots (take m (drop 2 before)) a → Writes p a (spelling a) old new w → Tells w before after r → WritesFrom n p slots spelling before after old new r
   wrote {a} made h t = record {
     few = λ i. absurd (omega arith);
     unread = λ _ none. told (h.unread (λ q. none a q (held slots before a (size a) (made.held (k.ranges a q))))) t;

@@ -1,8 +1,8 @@
 -- What a writer promises a C caller of the slots and the buffer.
-use Rattle.std.specs.Prelude.{ℕ, ◌<◌, ◌≤◌, List, ◌≡◌, ℤ, pos, length, take, drop, set}
+use Rattle.std.specs.Prelude.{ℕ, ◌<◌, ◌≤◌, List, Result, ◌≡◌, ℤ, pos, length, take, drop, set}
 use Rattle.parser.specs.Reading.{Reader}
 use Rattle.slots.specs.Slots.{Untouched}
-use Rattle.writing.specs.declared.Written.{Written}
+use Rattle.writing.specs.declared.Unwritten.{Unwritten}
 use Rattle.writing.specs.Writing.{number_of, count_of, Readable, over}
 
 -- the record a stands in the slots from 2 on, as a reader fills them
@@ -16,7 +16,7 @@ pub record LeavesIn (k m : ℕ) (l : List ℕ) (before after : List ℤ) (new : 
   pub buffer : new ≡ l
 
 -- a writer's answer, told by its number and by the count in slot 0
-pub record Tells (w : Written) (before after : List ℤ) (r : ℕ) : Type 0 where
+pub record Tells (w : Result ℕ Unwritten) (before after : List ℤ) (r : ℕ) : Type 0 where
   pub number : r ≡ number_of w
   pub count : after ≡ set before 0 (pos (count_of w))
 

@@ -15,22 +15,15 @@ ghost use Rattle.slot_writers.specs.Promise.{Tells, WritesFrom};
 
 use slots::TOO_FEW;
 use types::{Choices, DateTime};
-use writing::Written;
+use writing::Unwritten;
 
 // Leaves the count in slot 0, which is 0 where nothing was written, and gives the number.
-fn tell(slots: &mut [i64], written: Written) -> u32
+fn tell(slots: &mut [i64], written: Result<usize, Unwritten>) -> u32
     requires { (2 ≤ length slots.old) × (count_of written < 2 ^ 63) }
     ensures { Tells written slots.old slots.new result }
 {
-    slots[0] = 0;
-    match written {
-        Written::Text { count } => {
-            slots[0] = count as i64;
-            0
-        }
-        Written::NoReader => 4,
-        Written::TooShort => 5,
-    }
+    slots[0] = writing::count(written) as i64;
+    writing::number(written)
 }
 
 // Writes the offset that the slots hold.

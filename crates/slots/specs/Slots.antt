@@ -5,8 +5,8 @@ use Rattle.std.proofs.Math.Option.{Option, some, none}
 use Rattle.types.specs.declared.Verdict.{Verdict}
 use Rattle.types.specs.declared.Verdict.TheVariants.{Settled, Open}
 use Rattle.types.specs.declared.Offset.{Offset}
-use Rattle.types.specs.declared.TimeOffset.{TimeOffset}
-use Rattle.types.specs.declared.TimeOffset.TheVariants.{Absent, Given}
+use Rattle.std.specs.declared.option.Option as std_option
+use Rattle.std.specs.declared.option.Option.TheVariants.{None, Some}
 use Rattle.types.specs.declared.Time.{Time}
 use Rattle.types.specs.declared.Date.{Date}
 use Rattle.types.specs.declared.Date.TheVariants.{YMD, Week, Ordinal}
@@ -26,12 +26,12 @@ abbrev pub offset_slots : Offset → List ℤ
 offset_slots o = o.hours ∷ o.minutes ∷ []
 
 -- 1 and the offset, or 0 and zeros: absent is told from zero by the first of the three
-abbrev pub time_offset_slots : TimeOffset → List ℤ
-time_offset_slots Absent = pos 0 ∷ pos 0 ∷ pos 0 ∷ []
-time_offset_slots (Given o) = pos 1 ∷ offset_slots o
+abbrev pub time_offset_slots : std_option.Option Offset → List ℤ
+time_offset_slots None = pos 0 ∷ pos 0 ∷ pos 0 ∷ []
+time_offset_slots (Some o) = pos 1 ∷ offset_slots o
 
 -- behind the offset the number of the fraction's digits
-abbrev pub behind_slots : TimeOffset → ℕ → List ℤ
+abbrev pub behind_slots : std_option.Option Offset → ℕ → List ℤ
 behind_slots o digits = time_offset_slots o ++ pos digits ∷ []
 
 abbrev pub time_slots : Time → List ℤ
@@ -97,10 +97,6 @@ verdict_slot Open = pos 1
 -- a whole reader has no verdict
 abbrev pub no_verdict : ℤ
 no_verdict = negsuc 0
-
--- a refusal has a record of no kind
-abbrev pub no_slots : ⊥ → List ℤ
-no_slots _ = []
 
 abbrev pub record_slots : {A : Type 0} → (A → List ℤ) → Option A → List ℤ
 record_slots slots (some a) = slots a

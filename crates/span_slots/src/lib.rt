@@ -1,46 +1,29 @@
 // What the answer of an interval is in slots: how often it repeats, its shape, and its two sides, each at its place whatever stands there. A
-// side is filled by the function that fills the slots of its kind, which is lent the part of the slots that begins there. The layout stands in
-// slots' specs/Slots.antt.
+// side's record is put there by what fills the slots of its kind. The layout stands in slots' specs/Slots.antt.
 #![tactic(auto)]
 
-ghost use Rattle.std.specs.Prelude.{◌≡◌, ◌∷◌, [], ◌+◌, ◌≤◌, ◌<◌, ◌^◌, pos, length};
-ghost use Rattle.std.proofs.lemmas.List.Edits.{sets};
-ghost use Rattle.parser.specs.Answer.{recorded};
-ghost use Rattle.slots.specs.Slots.{repeat_slots, shape_of, stamp_side, duration_side, side_slots, interval_slots, PutIn};
+ghost use Rattle.std.specs.Prelude.{◌≡◌, ◌∷◌, [], ◌++◌, ◌-◌, ◌≤◌, pos, length, replicate};
+ghost use Rattle.std.proofs.Common.{rules};
+ghost use Rattle.parser.specs.Told.{told};
+ghost use Rattle.slots.specs.Slots.{repeat_slots, shape_of, side_slots, interval_slots, PutIn};
 
-use slots::{MOST, TOO_FEW};
-use types::{DateTime, Duration, Interval, IntervalRange, Repetitions};
+use parser::answer::{Answer, Counted};
+use slots::InSlots;
+use types::{Interval, IntervalRange, Repetitions};
 
-// Where the sides begin.
-const FIRST: usize = 5;
+// How many slots an interval's answer takes, and how many of them each side.
+pub const ROOM: usize = 33;
 
-const SECOND: usize = 19;
-
-// A side that is not there is filled as this one.
-const NOTHING: Duration = Duration {
-    years: 0,
-    months: 0,
-    weeks: 0,
-    days: 0,
-    hours: 0,
-    minutes: 0,
-    seconds: 0,
-};
+const SIDE: usize = 14;
 
 // A repeat's two slots: which of the three it is, and the number of times.
-#[derive(Clone, Copy)]
-struct Often {
-    which: u32,
-    times: u32,
-}
-
-fn often_of(r: Repetitions) -> Often
-    ensures { repeat_slots r ≡ pos result.which ∷ pos result.times ∷ [] }
+fn repeat(repetitions: Repetitions) -> (u32, u32)
+    ensures { repeat_slots repetitions ≡ pos result.0 ∷ pos result.1 ∷ [] }
 {
-    match r {
-        Repetitions::Once => Often { which: 0, times: 0 },
-        Repetitions::Unlimited => Often { which: 1, times: 0 },
-        Repetitions::Times(n) => Often { which: 2, times: n },
+    match repetitions {
+        Repetitions::Once => (0, 0),
+        Repetitions::Unlimited => (1, 0),
+        Repetitions::Times(n) => (2, n),
     }
 }
 
@@ -61,77 +44,73 @@ fn shape_of(range: IntervalRange) -> u32
     }
 }
 
-// The fourteen slots of a side, from a place on.
-fn put_stamp(slots: &mut [i64], at: usize, x: DateTime)
-    requires { at + 14 ≤ length slots.old }
-    ensures { slots.new ≡ sets slots.old at (stamp_side x) }
+// A side is laid out as an answer of its kind, with 0 for the count, for the verdict and for each slot that it leaves.
+#[tactic(auto, using(crate::proofs::Laws::zeros_left))]
+fn put_side<T: InSlots + Copy>(side: &mut [i64], value: T)
+    requires { (length side.old ≡ 14) × (T.ROOM ≤ 14) }
+    ensures { side.new ≡ pos 0 ∷ pos 0 ∷ T.layout value ++ replicate (14 - T.ROOM) (pos 0) }
 {
-    slots::put_datetime(&mut slots[at..], 0, 0, x);
+    side.fill(0);
+    value.put(&mut side[2..T::ROOM]);
 }
 
-fn put_lasting(slots: &mut [i64], at: usize, d: Duration)
-    requires { at + 14 ≤ length slots.old }
-    ensures { slots.new ≡ sets slots.old at (duration_side d) }
-{
-    slots::put_duration(&mut slots[at..], 0, 0, d);
-    slots[at + 9] = 0;
-    slots[at + 10] = 0;
-    slots[at + 11] = 0;
-    slots[at + 12] = 0;
-    slots[at + 13] = 0;
-}
-
-fn put_sides(slots: &mut [i64], range: IntervalRange)
-    requires { 33 ≤ length slots.old }
-    ensures { slots.new ≡ sets slots.old 5 (side_slots range) }
+fn put_sides(first: &mut [i64], second: &mut [i64], range: IntervalRange)
+    requires { (length first.old ≡ 14) × (length second.old ≡ 14) }
+    ensures { first.new ++ second.new ≡ side_slots range }
 {
     match range {
         IntervalRange::Closed { start, end } => {
-            put_stamp(slots, FIRST, start);
-            put_stamp(slots, SECOND, end);
+            put_side(first, start);
+            put_side(second, end);
         }
         IntervalRange::ClosedEnd { duration, end } => {
-            put_lasting(slots, FIRST, duration);
-            put_stamp(slots, SECOND, end);
+            put_side(first, duration);
+            put_side(second, end);
         }
         IntervalRange::ClosedStart { start, duration } => {
-            put_stamp(slots, FIRST, start);
-            put_lasting(slots, SECOND, duration);
+            put_side(first, start);
+            put_side(second, duration);
         }
         IntervalRange::Open { duration } => {
-            put_lasting(slots, FIRST, duration);
-            put_lasting(slots, SECOND, NOTHING);
+            put_side(first, duration);
+            second.fill(0);
         }
     }
 }
 
-// The five slots in front of the sides.
-fn put_front(slots: &mut [i64], count: usize, verdict: i64, which: u32, times: u32, shape: u32)
-    requires { (5 ≤ length slots.old) × (count < 2 ^ 63) }
-    ensures { slots.new ≡ sets slots.old 0 (pos count ∷ verdict ∷ pos which ∷ pos times ∷ pos shape ∷ []) }
-{
-    slots[0] = count as i64;
-    slots[1] = verdict;
-    slots[2] = which as i64;
-    slots[3] = times as i64;
-    slots[4] = shape as i64;
+// An interval as its slots hold it: a type of this crate, since the trait and the record are both of others.
+#[derive(Clone, Copy)]
+struct Spanned(Interval);
+
+impl InSlots for Spanned {
+    ghost ROOM = { 33 };
+
+    ghost layout = { λ x. interval_slots x.0 };
+
+    ghost has_head = { Prim.search rules };
+
+    const ROOM: usize = ROOM;
+
+    fn put(self, slots: &mut [i64]) {
+        let Interval { repetitions, range } = self.0;
+        let (which, times) = repeat(repetitions);
+        let (front, sides) = slots.split_at_mut(3);
+        let (first, second) = sides.split_at_mut(SIDE);
+        front.copy_from_slice(&[which as i64, times as i64, shape_of(range) as i64]);
+        put_sides(first, second, range);
+    }
 }
 
 // Fills the slots of an interval's answer and returns its number.
-pub fn put_interval(slots: &mut [i64], count: usize, verdict: i64, x: Interval) -> u32
-    ensures { PutIn 33 interval_slots verdict (recorded x count) slots.old slots.new result }
+pub fn put_answer(slots: &mut [i64], verdict: i64, answer: Answer<Interval>) -> u32
+    ensures { PutIn 33 interval_slots verdict (told answer) slots.old slots.new result }
 {
-    if slots.len() < 33 {
-        return TOO_FEW;
-    }
-    if MOST < count {
-        return TOO_FEW;
-    }
-    let repetitions = x.repetitions;
-    let range = x.range;
-    let often = often_of(repetitions);
-    let shape = shape_of(range);
-    put_front(slots, count, verdict, often.which, often.times, shape);
-    put_sides(slots, range);
-    0
+    let spanned: Answer<Spanned> = match answer {
+        Ok(record) => Ok(Counted {
+            value: Spanned(record.value),
+            count: record.count,
+        }),
+        Err(refused) => Err(refused),
+    };
+    slots::put_answer(slots, verdict, spanned)
 }

@@ -7,44 +7,31 @@ ghost use Rattle.interval.specs.Once.{interval};
 ghost use Rattle.slots.specs.Slots.{interval_slots};
 ghost use Rattle.slot_readers.specs.Promises.{BeginsIn, EndsIn, BeginsUnder, EndsUnder};
 
-use intervals::IntervalAnswer;
 use slot_readers::NO_VERDICT;
-use slots::{Chosen, NO_SUCH_CHOICE, TOO_FEW};
+use slots::{NO_SUCH_CHOICE, TOO_FEW};
+use span_slots::ROOM;
 use types::Choices;
 
 // Reads the interval that the bytes begin with.
 pub fn interval(s: &[u8], slots: &mut [i64], choices: Choices) -> u32
     ensures { BeginsIn 33 14 (interval choices) interval_slots s.now slots.old slots.new result }
 {
-    if slots.len() < 33 {
+    if slots.len() < ROOM {
         return TOO_FEW;
     }
     let read = intervals::interval(s, choices);
-    let judged = read.verdict;
-    let verdict = slots::verdict_slot(judged);
-    let answer = read.answer;
-    match answer {
-        IntervalAnswer::Record { value, count } => span_slots::put_interval(
-            slots, count, verdict, value,
-        ),
-        IntervalAnswer::Refused { why, count } => slots::put_refusal(slots, count, verdict, why),
-    }
+    span_slots::put_answer(slots, slots::verdict_slot(read.verdict), read.answer)
 }
 
 // Reads bytes that are one interval from the first to the last.
+#[tactic(auto, using(slot_readers::proofs::Laws::ends, interval::proofs::Laws::interval_bounded))]
 pub fn parse_interval(s: &[u8], slots: &mut [i64], choices: Choices) -> u32
     ensures { EndsIn 33 (interval choices) interval_slots s.now slots.old slots.new result }
 {
-    if slots.len() < 33 {
+    if slots.len() < ROOM {
         return TOO_FEW;
     }
-    let answer = intervals::parse_interval(s, choices);
-    match answer {
-        IntervalAnswer::Record { value, count } => span_slots::put_interval(
-            slots, count, NO_VERDICT, value,
-        ),
-        IntervalAnswer::Refused { why, count } => slots::put_refusal(slots, count, NO_VERDICT, why),
-    }
+    span_slots::put_answer(slots, NO_VERDICT, intervals::parse_interval(s, choices))
 }
 
 // Reads the interval that the bytes begin with, for C: a number names the choices.
@@ -52,10 +39,9 @@ pub fn parse_interval(s: &[u8], slots: &mut [i64], choices: Choices) -> u32
 pub extern "C" fn tirozhbar_interval(s: &[u8], slots: &mut [i64], choices: u32) -> u32
     ensures { BeginsUnder 33 14 interval interval_slots choices s.now slots.old slots.new result }
 {
-    let chosen = slots::choices_of(choices);
-    match chosen {
-        Chosen::Names(named) => interval(s, slots, named),
-        Chosen::Unknown => NO_SUCH_CHOICE,
+    match slots::choices_of(choices) {
+        Some(named) => interval(s, slots, named),
+        None => NO_SUCH_CHOICE,
     }
 }
 
@@ -64,9 +50,8 @@ pub extern "C" fn tirozhbar_interval(s: &[u8], slots: &mut [i64], choices: u32) 
 pub extern "C" fn tirozhbar_parse_interval(s: &[u8], slots: &mut [i64], choices: u32) -> u32
     ensures { EndsUnder 33 interval interval_slots choices s.now slots.old slots.new result }
 {
-    let chosen = slots::choices_of(choices);
-    match chosen {
-        Chosen::Names(named) => parse_interval(s, slots, named),
-        Chosen::Unknown => NO_SUCH_CHOICE,
+    match slots::choices_of(choices) {
+        Some(named) => parse_interval(s, slots, named),
+        None => NO_SUCH_CHOICE,
     }
 }

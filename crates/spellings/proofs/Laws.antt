@@ -11,8 +11,8 @@ use Rattle.parser.specs.Answer.{recorded, refused, ended}
 use Rattle.parser.proofs.Verdict.{ended_got}
 use Rattle.kinds.specs.declared.answer.Kind.{Kind}
 use Rattle.kinds.specs.declared.answer.Record.{Record}
-use Rattle.kinds.specs.declared.answer.Letter.{Letter}
-use Rattle.kinds.specs.declared.answer.Letter.TheVariants.{Names, Unknown}
+use Rattle.std.specs.declared.option.Option.{Option}
+use Rattle.std.specs.declared.option.Option.TheVariants.{None, Some}
 use Rattle.kinds.specs.Kinds.{rule_of, choices_in}
 use Rattle.text.specs.Text.{decimal}
 use Rattle.words.specs.Words.{letters_of}
@@ -49,9 +49,9 @@ pub line_short : (l : List ℕ) → length (spelled_line l) ≤ 512
 unfolding letters_of
 line_short l = go (question_of l)
   where
-    go : (q : Letter) → length (spelled_as q (text_in l) ++ 10 ∷ []) ≤ 512
-    go (Names k) = rw (length-append (said (ended (length (text_in l)) ((rule_of k).reads (text_in l) 0))) (10 ∷ [])) (omega (arith, said_short k (text_in l)))
-    go Unknown = omega arith
+    go : (q : Option Kind) → length (spelled_as q (text_in l) ++ 10 ∷ []) ≤ 512
+    go (Some k) = rw (length-append (said (ended (length (text_in l)) ((rule_of k).reads (text_in l) 0))) (10 ∷ [])) (omega (arith, said_short k (text_in l)))
+    go None = omega arith
 
 -- what is said of the first 205 bytes of a line, or more of them, is said of the line
 pub spelled_clip : (limit : ℕ) (l : List ℕ) → 205 ≤ limit → spelled_line (take limit l) ≡ spelled_line l

@@ -3,8 +3,9 @@ use Rattle.std.specs.Prelude.{ℕ, List, [], ◌∷◌, ◌++◌, length}
 use Rattle.std.proofs.Math.Option.{Option, some, none}
 use Rattle.parser.specs.Answer.{Told, ended}
 use Rattle.kinds.specs.declared.answer.Record.{Record}
-use Rattle.kinds.specs.declared.answer.Letter.{Letter}
-use Rattle.kinds.specs.declared.answer.Letter.TheVariants.{Names, Unknown}
+use Rattle.kinds.specs.declared.answer.Kind.{Kind}
+use Rattle.std.specs.declared.option.Option as std_option
+use Rattle.std.specs.declared.option.Option.TheVariants.{None, Some}
 use Rattle.kinds.specs.Kinds.{rule_of}
 use Rattle.text.specs.Text.{decimal}
 use Rattle.words.specs.declared.word.Name.TheVariants as name
@@ -25,9 +26,9 @@ abbrev pub said : Told Record → List ℕ
 said t = said_of t.value t.number
 
 -- "the record that the whole reader gives"; "a line of any other form prints `unknown`"
-abbrev pub spelled_as : Letter → List ℕ → List ℕ
-spelled_as (Names k) s = said (ended (length s) ((rule_of k).reads s 0))
-spelled_as Unknown s = letters_of name.Unknown
+abbrev pub spelled_as : std_option.Option Kind → List ℕ → List ℕ
+spelled_as (Some k) s = said (ended (length s) ((rule_of k).reads s 0))
+spelled_as None s = letters_of name.Unknown
 
 abbrev pub spelled : List ℕ → List ℕ
 spelled l = spelled_as (question_of l) (text_in l)

@@ -9,7 +9,7 @@ ghost use Rattle.writing.specs.Writing.{Readable};
 ghost use Rattle.writers.specs.Spellings.{kind_of, spelling};
 ghost use Rattle.spellings.specs.Said.{said, spelled, spelled_line};
 
-use kinds::answer::{Answer, Kind, Letter, Record};
+use kinds::answer::{Kind, Record};
 use text::{put, put_byte, put_decimal};
 use types::Choices;
 use words::rows::put_name;
@@ -22,33 +22,31 @@ fn put_spelling(out: &mut [u8], at: usize, value: Record, choices: Choices) -> u
     requires { Readable (rule_of (kind_of choices value)) value }
     ensures { Puts (spelling value) out.old at out.new result }
 {
-    let mut text = [0u8; LONGEST];
-    let count = writers::write(value, choices, &mut text).count();
+    let mut text = [0; LONGEST];
+    let count = writing::count(writers::write(value, choices, &mut text));
     put(out, at, &text[..count])
 }
 
 fn spell_text(kind: Kind, s: &[u8], out: &mut [u8], at: usize) -> usize
     ensures { Puts (said (ended (length s.now) ((rule_of kind).reads s.now 0))) out.old at out.new result }
 {
-    let whole = kinds::parse(kind, s);
-    match whole {
-        Answer::Record { value, count: _ } => put_spelling(out, at, value, kind.choices()),
-        Answer::Refused { why: _, count: _ } => {
+    match kinds::parse(kind, s) {
+        Ok(record) => put_spelling(out, at, record.value, kind.choices()),
+        Err(refused) => {
             let next = put(out, at, b"refused ");
-            put_decimal(out, next, whole.number())
+            put_decimal(out, next, refused.why.number() as u64)
         }
     }
 }
 
 // What `spell` says of a line, without the line's end.
+#[tactic(auto, using(reply::proofs::Asked::names_long))]
 fn spell(line: &[u8], out: &mut [u8], at: usize) -> usize
     ensures { Puts (spelled line.now) out.old at out.new result }
 {
-    let asked = reply::question(line);
-    let from = reply::head_of(line).from;
-    match asked {
-        Letter::Names(kind) => spell_text(kind, &line[from..], out, at),
-        Letter::Unknown => put_name(out, at, Name::Unknown),
+    match reply::question(line) {
+        Some(kind) => spell_text(kind, &line[reply::head_of(line).from..], out, at),
+        None => put_name(out, at, Name::Unknown),
     }
 }
 
@@ -57,5 +55,5 @@ pub fn spell_line(line: &[u8], out: &mut [u8], at: usize) -> usize
     ensures { Puts (spelled_line line.now) out.old at out.new result }
 {
     let next = spell(line, out, at);
-    put_byte(out, next, 10)
+    put_byte(out, next, b'\n')
 }

@@ -1,28 +1,17 @@
 -- What holds after some lines of a block: the texts that were put make one, for the bytes from the place up to what is used.
 use Prim.Native.Nat.{ℕ, ◌+◌, ◌-◌, ◌≤◌, ◌<◌, min}
-use mathlib.Core.Bool.{Bool, true, false}
 use mathlib.Core.List.{List, [], ◌++◌}
-use mathlib.Core.Logic.{inl, inr}
 use mathlib.Core.Path.{◌≡◌, refl, ◌∙◌}
 use native.Mathlib.Omega.{arith}
-use lib.Dec.{leb}
 use lib.ListN.{length, take, length-append}
-use borrow.Author.Tests.{leb-true, leb-false}
 use Rattle.lines.specs.Lines.{between}
 use Rattle.lines.proofs.Held.{between_then, take_lesser}
 use Rattle.text.specs.Text.{Puts}
 use Rattle.text.proofs.Laws.{puts_nothing, then_puts, puts_fits, puts_clips}
 use Rattle.stream.specs.declared.Program.{Program}
 use Rattle.stream.specs.declared.Reached.{Reached}
-use Rattle.stream.specs.Stream.{Goes, One, Steps}
+use Rattle.stream.specs.Stream.{Goes, One}
 use Rattle.stream.proofs.Laws.{nothing_goes, goes_then}
-
-later : (f u a : ℕ) → f ≤ u → (u ≡ f → a ≡ 0) → 1 ≤ a → f < u
-later f u a h e k = step (leb u f) refl
-  where
-    step : (b : Bool) → leb u f ≡ b → f < u
-    step true t = let same : u ≡ f = omega (arith, leb-true u f t) in let none = e same in absurd (omega arith)
-    step false t = omega (arith, leb-false u f t)
 
 module _ (p : Program) (held : ℕ) (block : List ℕ) (from : ℕ) (kept₀ out₀ : List ℕ) where
   pub record Sofar (kept out : List ℕ) (now used at : ℕ) : Type 0 where
@@ -73,32 +62,4 @@ module _ (p : Program) (held : ℕ) (block : List ℕ) (from : ℕ) (kept₀ out
         on = omega (arith, s.on, m.on);
         within = omega (arith, s.on, s.within, m.within);
         fresh = λ h. absurd (omega (arith, m.some more, s.on));
-      }
-
-  pub stops_short : {kept out : List ℕ} {now used at : ℕ} → Sofar kept out now used at → length out < at + 16384 → Steps p held block from kept₀ out₀ kept out (record { held = now; used = used; at = at })
-  stops_short s short =
-      record {
-        text = s.text;
-        goes = s.goes;
-        size = s.kept_size;
-        puts = s.puts;
-        fits = omega (arith, s.place, s.fits, s.out_size);
-        used = s.on;
-        within = s.within;
-        stops = inr (omega (arith, s.out_size));
-        more = λ h k. later from _ _ s.on s.fresh (omega (arith, s.out_size));
-      }
-
-  pub stops_done : {kept out : List ℕ} {now used at : ℕ} → Sofar kept out now used at → length block ≤ used → Steps p held block from kept₀ out₀ kept out (record { held = now; used = used; at = at })
-  stops_done s done =
-      record {
-        text = s.text;
-        goes = s.goes;
-        size = s.kept_size;
-        puts = s.puts;
-        fits = omega (arith, s.place, s.fits, s.out_size);
-        used = s.on;
-        within = s.within;
-        stops = inl (omega (arith, s.on, s.within));
-        more = λ h k. omega arith;
       }

@@ -9,8 +9,7 @@ ghost use Rattle.std.specs.Prelude.{◌+◌, ◌≤◌, length};
 ghost use Rattle.reply.specs.Line.{Gives};
 ghost use Rattle.stream.specs.Stream.{Responds, One, Steps, Finishes};
 
-use lines::lesser;
-
+// A program, by the responses that it gives.
 #[derive(Clone, Copy)]
 pub enum Program {
     Answers,
@@ -55,28 +54,26 @@ pub fn respond(program: Program, line: &[u8], out: &mut [u8], at: usize) -> usiz
 fn one_line(
     program: Program,
     kept: &mut [u8],
-    held: usize,
     block: &[u8],
-    from: usize,
     out: &mut [u8],
-    at: usize,
+    now: Reached,
 ) -> Reached
-    requires { (held ≤ length kept.old) × (at + 16384 ≤ length out.old) }
-    ensures { One program held block.now from kept.old out.old at kept.new out.new result }
+    requires { (now.held ≤ length kept.old) × (now.at + 16384 ≤ length out.old) }
+    ensures { One program now.held block.now now.used kept.old out.old now.at kept.new out.new result }
 {
-    let taken = lines::take_line(kept, held, block, from);
-    let n = taken.held;
+    let taken = lines::take_line(kept, now.held, block, now.used);
+    let used = taken.used;
     if taken.ended {
         return Reached {
             held: 0,
-            used: taken.used,
-            at: respond(program, &kept[..n], out, at),
+            used,
+            at: respond(program, &kept[..taken.held], out, now.at),
         };
     }
     Reached {
-        held: n,
-        used: taken.used,
-        at,
+        held: taken.held,
+        used,
+        at: now.at,
     }
 }
 
@@ -92,26 +89,22 @@ pub fn step(
 ) -> Reached
     ensures { Steps program held block.now from kept.old out.old kept.new out.new result }
 {
-    let mut held = lesser(held, kept.len());
-    let mut used = from;
-    let mut at = 0;
-    while used < block.len() {
-        if out.len() - at < ROOM {
-            break;
-        }
-        let one = one_line(program, kept, held, block, used, out, at);
-        held = one.held;
-        used = one.used;
-        at = one.at;
+    let mut now = Reached {
+        held: held.min(kept.len()),
+        used: from,
+        at: 0,
+    };
+    while now.used < block.len() && ROOM <= out.len() - now.at {
+        now = one_line(program, kept, block, out, now);
     }
-    Reached { held, used, at }
+    now
 }
 
 // The end of the input: puts the response of the last line, where no byte 10 ended it and it is not empty.
 pub fn finish(program: Program, kept: &[u8], held: usize, out: &mut [u8]) -> usize
     ensures { Finishes program held kept.now out.old out.new result }
 {
-    let n = lesser(held, kept.len());
+    let n = held.min(kept.len());
     if n == 0 {
         return 0;
     }

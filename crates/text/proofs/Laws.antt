@@ -1,5 +1,5 @@
 -- What is put one behind the other is put as one text, and where there is room, all of the text is there.
-use Prim.Native.Nat.{ℕ, ◌+◌, ◌≤◌, ◌<◌}
+use Prim.Native.Nat.{ℕ, ◌+◌, ◌-◌, ◌≤◌, ◌<◌}
 use mathlib.Core.List.{List, [], ◌∷◌, ◌++◌, append-nil, append_assoc}
 use mathlib.Core.Bool.{Bool, true, false}
 use mathlib.Core.Path.{◌≡◌, refl, sym, ap, ◌∙◌}
@@ -8,8 +8,10 @@ use native.Mathlib.Nat.{add-zero, suc-add, add-suc}
 use native.Mathlib.Omega.{arith}
 use borrow.Author.Tests.{lt-ltb, le-ltb, ltb-true, ltb-false}
 use lib.Dec.{ltb}
-use lib.ListN.{length, set, length-set, take, drop, get_or}
+use lib.ListN.{length, set, length-set, length-append, take, drop, get_or}
 use lib.Seq.{length-take-le, take_all, take-suc, take-suc-set, take-length, take-append_seam, sets, sets-eq}
+use Rattle.std.proofs.lemmas.List.{set-append_right, take-append-drop}
+use Rattle.parser.proofs.Lent.{all_lent, none_behind}
 use Rattle.text.specs.Text.{Output, output, puts, puts_one, Puts}
 
 pub puts_append : (a b : List ℕ) (o : Output) → puts (a ++ b) o ≡ puts b (puts a o)
@@ -36,6 +38,9 @@ unfolding puts puts_one
 puts_no_byte b l at h = record { put = rw (le-ltb at (length l) h) }
 
 -- A word, byte by byte.
+
+pub puts_turn : (word : List ℕ) (i : ℕ) (o : Output) → i < length word → puts (take (i + 1) word) o ≡ puts (get_or word i 0 ∷ []) (puts (take i word) o)
+puts_turn word i o h = rw (add-one i, take-suc word i 0 h) (puts_append (take i word) (get_or word i 0 ∷ []) o)
 
 module _ (word : List ℕ) (i : ℕ) {old mid new : List ℕ} {at n next : ℕ} where
   pub puts_more : i < length word → Puts (take i word) old at mid n → Puts (get_or word i 0 ∷ []) mid n new next → Puts (take (i + 1) word) old at new next
@@ -104,3 +109,37 @@ puts_clips {t} {old} {new} {at} {next} e h = rw e.put (clips t old at h)
 -- what is put from the front on ends within the output
 pub puts_within : {t old new : List ℕ} {next : ℕ} → Puts t old 0 new next → next ≤ length new
 puts_within e = let c = puts_clips e (omega arith) in omega (arith, c.place, c.size)
+
+-- What is put into the part of an output that begins at a place is put from that place on.
+
+-- the output o, where p stands in front of it
+abbrev behind : List ℕ → Output → Output
+behind p o = output (p ++ o.bytes) (length p + o.next)
+
+one_behind : (p : List ℕ) (b : ℕ) (o : Output) → puts_one b (behind p o) ≡ behind p (puts_one b o)
+unfolding puts_one
+one_behind p b o = step (ltb o.next (length o.bytes)) refl
+  where
+    step : (c : Bool) → ltb o.next (length o.bytes) ≡ c → puts_one b (behind p o) ≡ behind p (puts_one b o)
+    step true e =
+        let room : length p + o.next < length (p ++ o.bytes) = omega (arith, length-append p o.bytes, ltb-true o.next (length o.bytes) e) in
+        let at : length p + o.next - length p ≡ o.next = omega arith in
+        let stored : set (p ++ o.bytes) (length p + o.next) b ≡ p ++ set o.bytes o.next b = set-append_right p o.bytes (length p) (length p + o.next) b refl (omega arith) ∙ ap (λ (i : ℕ). p ++ set o.bytes i b) at in
+        rw (e, lt-ltb (length p + o.next) (length (p ++ o.bytes)) room, stored) (ap (output (p ++ set o.bytes o.next b)) (omega arith))
+    step false e =
+        let full : length (p ++ o.bytes) ≤ length p + o.next = omega (arith, length-append p o.bytes, ltb-false o.next (length o.bytes) e) in
+        rw (e, le-ltb (length p + o.next) (length (p ++ o.bytes)) full)
+
+puts_behind : (t p : List ℕ) (o : Output) → puts t (behind p o) ≡ behind p (puts t o)
+unfolding puts
+puts_behind [] p o = refl
+puts_behind (b ∷ t) p o = rw (one_behind p b o) (puts_behind t p (puts_one b o))
+
+puts_from : (t p l whole : List ℕ) (at : ℕ) → p ++ l ≡ whole → length p ≡ at → puts t (output whole at) ≡ output (p ++ (puts t (output l 0)).bytes) (at + (puts t (output l 0)).next)
+puts_from t p l whole at e f = rw (← e, ← f) (rw (add-zero (length p)) at (puts_behind t p (output l 0)))
+
+pub puts_lent : {t new : List ℕ} (l : List ℕ) (at : ℕ) {n : ℕ} → at ≤ length l → Puts t (take (length l - at) (drop at l)) 0 new n → Puts t l at (take at l ++ (new ++ drop (length l - at) (drop at l))) (at + n)
+puts_lent {t} {new} l at {n} h q =
+    let put : output new n ≡ puts t (output (drop at l) 0) = rw (all_lent at l) at q.put in
+    let all = puts_from t (take at l) (drop at l) l at (take-append-drop at l) (length-take-le at l h) in
+    record { put = rw (none_behind at l, append-nil new) (sym (rw (← put) at all)) }

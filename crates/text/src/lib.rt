@@ -8,6 +8,7 @@ ghost use Rattle.std.specs.Prelude.{[], ◌∷◌};
 ghost use Rattle.text.specs.Text.{Puts, decimal};
 
 // Puts one byte.
+#[tactic(auto, using(crate::proofs::Laws::puts_byte, crate::proofs::Laws::puts_no_byte))]
 pub fn put_byte(out: &mut [u8], at: usize, byte: u8) -> usize
     ensures { Puts (byte ∷ []) out.old at out.new result }
 {
@@ -20,19 +21,19 @@ pub fn put_byte(out: &mut [u8], at: usize, byte: u8) -> usize
 }
 
 // Puts some bytes.
+#[tactic(auto, using(crate::proofs::Laws::puts_nothing, crate::proofs::Laws::puts_turn))]
 pub fn put(out: &mut [u8], at: usize, bytes: &[u8]) -> usize
     ensures { Puts bytes.now out.old at out.new result }
 {
     let mut next = at;
-    let mut i = 0;
-    while i < bytes.len() {
-        next = put_byte(out, next, bytes[i]);
-        i += 1;
+    for &byte in bytes {
+        next = put_byte(out, next, byte);
     }
     next
 }
 
 // Puts a number's decimal digits.
+#[tactic(auto, using(crate::proofs::Decimals::decimal_is))]
 pub fn put_decimal(out: &mut [u8], at: usize, n: u64) -> usize
     ensures { Puts (decimal n) out.old at out.new result }
 {

@@ -1,4 +1,5 @@
 pub mod Sum
+pub mod LeftOut
 pub mod Unmarked
 pub mod Behind
 pub mod EndOfDay

@@ -32,7 +32,7 @@ marked_settled : (hi : ℕ) (s : List ℕ) (at : ℕ) (b : ℕ) → ltb at (leng
 unfolding seq opt lit field digits_more
 marked_settled hi s at b i e d c = simp (i, e, d, c)
 
-pub no_mark : (hi : ℕ) (s : List ℕ) (at : ℕ) → (preceded_by 58 (field 2 0 hi)).more s at ≡ true → mark.reads s at ≡ no
+no_mark : (hi : ℕ) (s : List ℕ) (at : ℕ) → (preceded_by 58 (field 2 0 hi)).more s at ≡ true → mark.reads s at ≡ no
 unfolding alt lit
 no_mark hi s at h = go (ltb at (length s)) refl (eqb (get_or s at 0) 44) refl (eqb (get_or s at 0) 46) refl
   where

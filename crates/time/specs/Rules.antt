@@ -12,8 +12,8 @@ use Rattle.types.specs.declared.Offset.{Offset}
 use Rattle.types.specs.declared.Reading.{Reading}
 use Rattle.types.specs.declared.Reading.TheVariants.{Old, Standard}
 use Rattle.types.specs.declared.Time.{Time}
-use Rattle.types.specs.declared.TimeOffset.{TimeOffset}
-use Rattle.types.specs.declared.TimeOffset.TheVariants.{Absent, Given}
+use Rattle.std.specs.declared.option.Option as std_option
+use Rattle.std.specs.declared.option.Option.TheVariants.{None, Some}
 use Rattle.parser.specs.Reading.{Reader, seq, opt, alt, must, map, pick}
 use Rattle.parser.specs.Digits.{field, any, at_most, run_as, fraction_of}
 use Rattle.parser.specs.Fields.{hour, minute, second, either, preceded_by, or_zero}
@@ -103,9 +103,9 @@ behind_hour Old z = minute_second_millisecond Old z
 behind_hour Standard z = alt (minute_second_millisecond Standard z) (time_fraction Hour z 0 0)
 
 -- "An absent offset is marked so, and isn't zero."
-abbrev pub or_absent : Option Offset → TimeOffset
-or_absent none = Absent
-or_absent (some o) = Given o
+abbrev pub or_absent : Option Offset → std_option.Option Offset
+or_absent none = None
+or_absent (some o) = Some o
 
 abbrev pub time_of : ℕ → Clock → Option Offset → Time
 time_of h c o = record {

@@ -1,21 +1,17 @@
 // Times of day (time.rs).
 #![tactic(auto)]
 
-ghost use Rattle.std.specs.Prelude.{◌≡◌, true, not, ◌≤◌, eqb};
-ghost use Rattle.std.proofs.Math.Option.{none};
-ghost use Rattle.parser.specs.Reading.{Says, SaysOn, no, got, and};
-ghost use Rattle.parser.specs.Fields.{either};
-ghost use Rattle.fields.specs.Read.{number_found, number_read, number_more};
-ghost use Rattle.runs.specs.Read.{fraction_found, run_more};
-ghost use Rattle.time.specs.Rules.{hour_of, ends_day, fraction_if, whole_clock, unit_of, digits_counted, sum_of, clock_of, time_of, time_fraction, millisecond, second_millisecond, minute_second_millisecond, behind_hour, time_offset, after_hour, base_time, time};
-ghost use Rattle.time.specs.Answer.{clock_found, clock_more, time_found, time_more};
-ghost use Rattle.time.specs.declared.TimeUnit.TheVariants.{Second};
+ghost use Rattle.std.specs.Prelude.{◌≡◌, true, ◌≤◌};
+ghost use Rattle.parser.specs.Reading.{Says, SaysOn, no, lack, map_found};
+ghost use Rattle.parser.specs.Digits.{field};
+ghost use Rattle.parser.specs.Fields.{either, preceded_by};
+ghost use Rattle.parser.specs.Read.{exact_found, exact_more, got_found, got_more, or_value};
+ghost use Rattle.fields.specs.Read.{number_read};
+ghost use Rattle.time.specs.Rules.{hour_of, ends_day, zero_if, fraction_if, whole_clock, unit_of, digits_counted, sum_of, clock_of, time_fraction, millisecond, second_millisecond, minute_second_millisecond, behind_hour, time_offset, after_hour, base_time, time};
+ghost use Rattle.time.specs.Plain.{time_with};
 
-use fields::Number;
-use offset::OffsetFound;
-use parser::Mark;
-use runs::Run;
-use types::{Choices, Edition, Fraction, Reading, Time, TimeOffset};
+use parser::{Exact, Found, Got, Miss};
+use types::{Choices, Edition, Fraction, Offset, Reading, Refusal, Time};
 
 // What is read at one go, before the rule is asked.
 pub mod plain;
@@ -35,6 +31,37 @@ impl Clock {
         second: 0,
         fraction: Fraction::NONE,
     };
+
+    // So many nanoseconds past a minute.
+    #[tactic(auto, unfolding(crate::specs::Rules::sum_of))]
+    fn past(minute: u32, nanoseconds: u64) -> Clock
+        requires { minute ≤ 59 }
+        ensures { result ≡ sum_of minute nanoseconds }
+    {
+        let nanosecond = (nanoseconds % 1_000_000_000) as u32;
+        Clock {
+            minute: minute + (nanoseconds / 60_000_000_000) as u32,
+            second: (nanoseconds / 1_000_000_000 % 60) as u32,
+            fraction: Fraction {
+                nanosecond,
+                digits: digits_counted(nanosecond),
+            },
+        }
+    }
+
+    // The time that it is at an hour. An absent offset is not zero.
+    fn time_of(self, hour: u32, offset: Option<Offset>) -> Time
+        ensures { result ≡ time_with hour self.minute self.second self.fraction offset }
+    {
+        Time {
+            hour,
+            minute: self.minute,
+            second: self.second,
+            nanosecond: self.fraction.nanosecond,
+            digits: self.fraction.digits,
+            offset,
+        }
+    }
 }
 
 // What a fraction is a fraction of.
@@ -45,59 +72,47 @@ pub enum TimeUnit {
     Second,
 }
 
-// What reading minute, second and fraction at a place finds; an absent one is 0. `more`, Stopped, Wrong and Cut: as in TimeFound.
+// What stands before a fraction, and what it is a fraction of.
 #[derive(Clone, Copy)]
-pub enum ClockFound {
-    Got {
-        value: Clock,
-        next: usize,
-        more: bool,
-    },
-    Stopped,
-    Wrong,
-    Cut,
+struct Whole {
+    minute: u32,
+    second: u32,
+    unit: TimeUnit,
 }
 
-// What reading at a place finds. `more`: the input ended where a byte more could still matter. Stopped: no form, since what follows an hour
-// that ends the day is not 0. Wrong: nothing, whatever follows. Cut: nothing yet, but the input ended where it could still come right.
-#[derive(Clone, Copy)]
-pub enum TimeFound {
-    Got {
-        value: Time,
-        next: usize,
-        more: bool,
-    },
-    Stopped,
-    Wrong,
-    Cut,
-}
+impl Whole {
+    // An hour alone.
+    const HOUR: Whole = Whole {
+        minute: 0,
+        second: 0,
+        unit: TimeUnit::Hour,
+    };
 
-// Whether the hour ends the day: 24, which only 2004 has.
-fn ends_day(choices: Choices, hour: u32) -> bool
-    ensures { result ≡ ends_day choices.edition hour }
-{
-    let edition = choices.edition;
-    match edition {
-        Edition::E2004 => hour == 24,
-        Edition::E2019 => false,
+    // The clock without a fraction.
+    fn clock(self) -> Clock
+        ensures { result ≡ whole_clock self.minute self.second }
+    {
+        Clock {
+            minute: self.minute,
+            second: self.second,
+            fraction: Fraction::NONE,
+        }
     }
-}
 
-// Whether a number that has to be 0 is not.
-fn stops(zero: bool, value: u32) -> bool
-    ensures { result ≡ and zero (not (eqb value 0)) }
-{
-    zero && value != 0
-}
-
-// The digits behind a comma or point, a run in billionths. `zero`: all have to be 0.
-fn fraction_at(s: &[u8], at: usize, zero: bool) -> Run
-    ensures { Says (fraction_if zero) s.now at (fraction_found at result) (run_more result) }
-{
-    if zero {
-        runs::take_zeros(s, at)
-    } else {
-        runs::fraction_nanosecond(s, at)
+    // The clock with a fraction of the unit; one of a second stays as it was written.
+    fn with(self, fraction: Fraction) -> Clock
+        requires { self.minute ≤ 59 }
+        ensures { result ≡ clock_of self.unit self.minute self.second fraction }
+    {
+        let nanosecond = u64::from(fraction.nanosecond);
+        match self.unit {
+            TimeUnit::Hour => Clock::past(self.minute, 3600 * nanosecond),
+            TimeUnit::Minute => Clock::past(self.minute, 60 * nanosecond),
+            TimeUnit::Second => Clock {
+                fraction,
+                ..self.clock()
+            },
+        }
     }
 }
 
@@ -108,140 +123,74 @@ fn digits_counted(nanosecond: u32) -> u32
     if nanosecond == 0 { 0 } else { 9 }
 }
 
-// So many nanoseconds past a minute.
-fn sum_of(minute: u32, all: u64) -> Clock
-    requires { minute ≤ 59 }
-    ensures { result ≡ sum_of minute all }
+// Whether the hour ends the day: 24, which only 2004 has.
+fn ends_day(edition: Edition, hour: u32) -> bool
+    ensures { result ≡ ends_day edition hour }
 {
-    let nanosecond = (all % 1000000000) as u32;
-    let left = Fraction {
-        nanosecond,
-        digits: digits_counted(nanosecond),
-    };
-    Clock {
-        minute: minute + ((all / 60000000000) as u32),
-        second: (all / 1000000000 % 60) as u32,
-        fraction: left,
+    match edition {
+        Edition::E2004 => hour == 24,
+        Edition::E2019 => false,
     }
 }
 
-// A clock with a fraction of a second, as it was written.
-fn clock_with(minute: u32, second: u32, fraction: Fraction) -> Clock
-    ensures { result ≡ clock_of Second minute second fraction }
+// The digits behind a comma or point, a run in billionths. `zero`: all have to be 0.
+fn fraction_at(s: &[u8], at: usize, zero: bool) -> Found<Fraction>
+    ensures { Says (fraction_if zero) s.now at (got_found result) (got_more result) }
 {
-    Clock {
-        minute,
-        second,
-        fraction,
-    }
-}
-
-// A clock with a fraction of the unit.
-fn clock_of(unit: TimeUnit, minute: u32, second: u32, fraction: Fraction) -> Clock
-    requires { minute ≤ 59 }
-    ensures { result ≡ clock_of unit minute second fraction }
-{
-    match unit {
-        TimeUnit::Hour => sum_of(minute, 3600 * (fraction.nanosecond as u64)),
-        TimeUnit::Minute => sum_of(minute, 60 * (fraction.nanosecond as u64)),
-        TimeUnit::Second => clock_with(minute, second, fraction),
+    if zero {
+        runs::take_zeros(s, at)
+    } else {
+        runs::fraction_nanosecond(s, at)
     }
 }
 
 // (,|.)(m*), a fraction of the unit
-fn time_fraction(
-    s: &[u8],
-    at: usize,
-    unit: TimeUnit,
-    minute: u32,
-    second: u32,
-    zero: bool,
-) -> ClockFound
-    requires { minute ≤ 59 }
-    ensures { Says (time_fraction unit zero minute second) s.now at (clock_found result) (clock_more result) }
+fn time_fraction(s: &[u8], at: usize, whole: Whole, zero: bool) -> Found<Clock>
+    requires { whole.minute ≤ 59 }
+    ensures { Says (time_fraction whole.unit zero whole.minute whole.second) s.now at (got_found result) (got_more result) }
 {
-    let mark = parser::one_of(s, at, 44, 46);
-    match mark {
-        Mark::Got { next: from } => {
-            let fraction = fraction_at(s, from, zero);
-            match fraction {
-                Run::Got { value, next, more } => {
-                    let kept = runs::fraction_of(value as u32, next - from);
-                    ClockFound::Got {
-                        value: clock_of(unit, minute, second, kept),
-                        next,
-                        more,
-                    }
-                }
-                Run::TooBig => ClockFound::Stopped,
-                Run::Wrong => ClockFound::Wrong,
-                Run::Cut => ClockFound::Cut,
-            }
-        }
-        Mark::Wrong => ClockFound::Wrong,
-        Mark::Cut => ClockFound::Cut,
-    }
-}
-
-// A clock without a fraction.
-fn whole_clock(minute: u32, second: u32, next: usize, more: bool) -> ClockFound
-    ensures found { clock_found result ≡ got (whole_clock minute second) next }
-    ensures more { clock_more result ≡ more }
-{
-    ClockFound::Got {
-        value: Clock {
-            minute,
-            second,
-            fraction: Fraction::NONE,
-        },
-        next,
-        more,
-    }
+    let from = parser::one_of(s, at, b',', b'.')?;
+    let fraction = fraction_at(s, from, zero)?;
+    Ok(Got {
+        value: whole.with(fraction.value),
+        next: fraction.next,
+        more: fraction.more,
+    })
 }
 
 // [(,|.)(m*)]; `more`: what came before was left open, and then no comma or point stands here
-fn time_millisecond(
-    s: &[u8],
-    at: usize,
-    unit: TimeUnit,
-    minute: u32,
-    second: u32,
-    more: bool,
-    zero: bool,
-) -> ClockFound
-    requires minute_bound { minute ≤ 59 }
+fn time_millisecond(s: &[u8], at: usize, whole: Whole, more: bool, zero: bool) -> Found<Clock>
+    requires minute_bound { whole.minute ≤ 59 }
     requires at_value { more ≡ true → (either 44 46).reads s.now at ≡ no }
-    ensures { SaysOn more (millisecond unit zero minute second) s.now at (clock_found result) (clock_more result) }
+    ensures { SaysOn more (millisecond whole.unit zero whole.minute whole.second) s.now at (got_found result) (got_more result) }
 {
-    let found = time_fraction(s, at, unit, minute, second, zero);
-    match found {
-        ClockFound::Got {
-            value,
-            next,
-            more: longer,
-        } => ClockFound::Got {
-            value,
-            next,
-            more: parser::either_open(more, longer),
-        },
-        ClockFound::Stopped => ClockFound::Stopped,
-        ClockFound::Wrong => whole_clock(minute, second, at, more),
-        ClockFound::Cut => whole_clock(minute, second, at, true),
-    }
+    let fraction = time_fraction(s, at, whole, zero);
+    let clock = parser::or_absent(at, fraction, whole.clock())?;
+    Ok(Got {
+        more: parser::either_open(more, clock.more),
+        ..clock
+    })
 }
 
 // What a fraction behind a minute is one of, by the second that was looked for.
-fn unit_of(reading: Reading, second: Number) -> TimeUnit
+fn unit_of(reading: Reading, second: Result<Exact<u32>, Miss>) -> TimeUnit
     ensures { result ≡ unit_of reading (number_read second) }
 {
-    match reading {
-        Reading::Old => TimeUnit::Second,
-        Reading::Standard => match second {
-            Number::Got { value: _, next: _ } => TimeUnit::Second,
-            Number::Wrong => TimeUnit::Minute,
-            Number::Cut => TimeUnit::Minute,
-        },
+    match (reading, second) {
+        (Reading::Standard, Err(_)) => TimeUnit::Minute,
+        _ => TimeUnit::Second,
     }
+}
+
+// [:]NN, from 00 to `hi`; `zero`: what is read has to be 0, and else the reading stops
+fn after_colon(s: &[u8], at: usize, hi: u32, zero: bool) -> Result<Exact<u32>, Miss>
+    ensures { Says (preceded_by 58 (zero_if zero (field 2 0 hi))) s.now at (exact_found result) (exact_more result) }
+{
+    let number = fields::after_colon(s, at, hi)?;
+    if zero && number.value != 0 {
+        return Err(Miss::Stopped(Refusal::NoForm));
+    }
+    Ok(number)
 }
 
 // [[:]SS][(,|.)(m*)]
@@ -251,25 +200,18 @@ fn time_second_millisecond(
     minute: u32,
     zero: bool,
     reading: Reading,
-) -> ClockFound
+) -> Found<Clock>
     requires { minute ≤ 59 }
-    ensures { Says (second_millisecond reading zero minute) s.now at (clock_found result) (clock_more result) }
+    ensures { Says (second_millisecond reading zero minute) s.now at (got_found result) (got_more result) }
 {
-    let found = fields::after_colon(s, at, 60);
-    let unit = unit_of(reading, found);
-    let second = fields::or_left_out(at, found);
-    if stops(zero, second.value) {
-        return ClockFound::Stopped;
-    }
-    time_millisecond(
-        s,
-        second.next,
-        unit,
+    let found = after_colon(s, at, 60, zero);
+    let second = parser::optional(at, found, 0)?;
+    let whole = Whole {
         minute,
-        second.value,
-        second.more,
-        zero,
-    )
+        second: second.value,
+        unit: unit_of(reading, found),
+    };
+    time_millisecond(s, second.next, whole, second.more, zero)
 }
 
 // [:]MM[[:]SS][(,|.)(m*)]; `zero`: what is read has to be 0
@@ -278,127 +220,75 @@ pub fn time_minute_second_millisecond(
     at: usize,
     zero: bool,
     reading: Reading,
-) -> ClockFound
-    ensures { Says (minute_second_millisecond reading zero) s.now at (clock_found result) (clock_more result) }
+) -> Found<Clock>
+    ensures { Says (minute_second_millisecond reading zero) s.now at (got_found result) (got_more result) }
 {
-    let minute = fields::after_colon(s, at, 59);
-    match minute {
-        Number::Got { value, next } => {
-            if stops(zero, value) {
-                return ClockFound::Stopped;
-            }
-            time_second_millisecond(s, next, value, zero, reading)
-        }
-        Number::Wrong => ClockFound::Wrong,
-        Number::Cut => ClockFound::Cut,
-    }
+    let minute = after_colon(s, at, 59, zero)?;
+    time_second_millisecond(s, minute.next, minute.value, zero, reading)
 }
 
 // What may stand between the hour and the offset: in the standard reading also (,|.)(m*), in place of minutes.
-fn time_behind_hour(s: &[u8], at: usize, zero: bool, reading: Reading) -> ClockFound
-    ensures { Says (behind_hour reading zero) s.now at (clock_found result) (clock_more result) }
+fn time_behind_hour(s: &[u8], at: usize, zero: bool, reading: Reading) -> Found<Clock>
+    ensures { Says (behind_hour reading zero) s.now at (got_found result) (got_more result) }
 {
     let clock = time_minute_second_millisecond(s, at, zero, reading);
-    match clock {
-        ClockFound::Got { value, next, more } => ClockFound::Got { value, next, more },
-        ClockFound::Stopped => ClockFound::Stopped,
-        ClockFound::Wrong => match reading {
-            Reading::Old => ClockFound::Wrong,
-            Reading::Standard => time_fraction(s, at, TimeUnit::Hour, 0, 0, zero),
-        },
-        ClockFound::Cut => ClockFound::Cut,
+    match (reading, clock) {
+        (Reading::Standard, Err(Miss::Wrong)) => time_fraction(s, at, Whole::HOUR, zero),
+        _ => clock,
     }
 }
 
-// [(Z|+...|-...)]; `more`: what came before was left open. An offset that is refused leaves the time standing.
-fn time_offset(s: &[u8], at: usize, hour: u32, clock: Clock, more: bool) -> TimeFound
-    ensures { SaysOn more (time_offset hour clock) s.now at (time_found result) (time_more result) }
+// [(Z|+...|-...)], behind a clock. An offset that is refused leaves the time standing.
+fn time_offset(s: &[u8], hour: u32, clock: Got<Clock>) -> Found<Time>
+    ensures { SaysOn clock.more (time_offset hour clock.value) s.now clock.next (got_found result) (got_more result) }
 {
-    let bare = no_offset(hour, clock, at, more);
-    let found = offset::offset_at(s, at);
-    match found {
-        OffsetFound::Got {
-            value,
-            next,
-            more: further,
-        } => TimeFound::Got {
-            value: Time {
-                hour,
-                minute: clock.minute,
-                second: clock.second,
-                nanosecond: clock.fraction.nanosecond,
-                digits: clock.fraction.digits,
-                offset: TimeOffset::Given(value),
-            },
-            next,
-            more: parser::either_open(more, further),
-        },
-        OffsetFound::Wrong => bare,
-        OffsetFound::Cut => no_offset(hour, clock, at, true),
-    }
-}
-
-// A time without an offset.
-fn no_offset(hour: u32, clock: Clock, next: usize, more: bool) -> TimeFound
-    ensures found { time_found result ≡ got (time_of hour clock none) next }
-    ensures more { time_more result ≡ more }
-{
-    TimeFound::Got {
-        value: Time {
-            hour,
-            minute: clock.minute,
-            second: clock.second,
-            nanosecond: clock.fraction.nanosecond,
-            digits: clock.fraction.digits,
-            offset: TimeOffset::Absent, // which is not zero
-        },
-        next,
-        more,
+    let at = clock.next;
+    match offset::offset_at(s, at) {
+        Ok(offset) => Ok(Got {
+            value: clock.value.time_of(hour, Some(offset.value)),
+            next: offset.next,
+            more: parser::either_open(clock.more, offset.more),
+        }),
+        Err(miss) => Ok(Got {
+            value: clock.value.time_of(hour, None),
+            next: at,
+            more: parser::either_open(clock.more, miss.is_cut()),
+        }),
     }
 }
 
 // What follows the hour. `zero`: it ends the day.
-fn time_after_hour(s: &[u8], at: usize, hour: u32, zero: bool, reading: Reading) -> TimeFound
-    ensures { Says (after_hour reading zero hour) s.now at (time_found result) (time_more result) }
+fn time_after_hour(s: &[u8], at: usize, hour: u32, zero: bool, reading: Reading) -> Found<Time>
+    ensures { Says (after_hour reading zero hour) s.now at (got_found result) (got_more result) }
 {
-    let clock = time_behind_hour(s, at, zero, reading);
-    match clock {
-        ClockFound::Got { value, next, more } => time_offset(s, next, hour, value, more),
-        ClockFound::Stopped => TimeFound::Stopped,
-        ClockFound::Wrong => time_offset(s, at, hour, Clock::WHOLE_HOUR, false),
-        ClockFound::Cut => time_offset(s, at, hour, Clock::WHOLE_HOUR, true),
-    }
+    let found = time_behind_hour(s, at, zero, reading);
+    let clock = parser::or_absent(at, found, Clock::WHOLE_HOUR)?;
+    time_offset(s, hour, clock)
 }
 
 // HH
-fn time_hour(s: &[u8], at: usize, choices: Choices) -> Number
-    ensures { Says (hour_of choices.edition) s.now at (number_found result) (number_more result) }
+fn time_hour(s: &[u8], at: usize, edition: Edition) -> Result<Exact<u32>, Miss>
+    ensures { Says (hour_of edition) s.now at (exact_found result) (exact_more result) }
 {
-    let edition = choices.edition;
-    match edition {
-        Edition::E2004 => fields::take_digits_in_range(s, at, 2, 0, 24),
-        Edition::E2019 => fields::take_digits_in_range(s, at, 2, 0, 23),
-    }
+    let last = match edition {
+        Edition::E2004 => 24,
+        Edition::E2019 => 23,
+    };
+    fields::take_digits_in_range(s, at, 2, 0, last)
 }
 
 // HH[[:]MM[[:]SS][(,|.)(m*)]][(Z|+...|-...)]; in the standard reading also HH(,|.)(m*)[(Z|+...|-...)]
-pub fn base_time(s: &[u8], at: usize, choices: Choices) -> TimeFound
-    ensures { Says (base_time choices) s.now at (time_found result) (time_more result) }
+pub fn base_time(s: &[u8], at: usize, choices: Choices) -> Found<Time>
+    ensures { Says (base_time choices) s.now at (got_found result) (got_more result) }
 {
-    let hour = time_hour(s, at, choices);
-    match hour {
-        Number::Got { value, next } => {
-            let reading = choices.reading;
-            time_after_hour(s, next, value, ends_day(choices, value), reading)
-        },
-        Number::Wrong => TimeFound::Wrong,
-        Number::Cut => TimeFound::Cut,
-    }
+    let hour = time_hour(s, at, choices.edition)?;
+    let zero = ends_day(choices.edition, hour.value);
+    time_after_hour(s, hour.next, hour.value, zero, choices.reading)
 }
 
 // [T]HH...
-pub fn time_at(s: &[u8], at: usize, choices: Choices) -> TimeFound
-    ensures { Says (time choices) s.now at (time_found result) (time_more result) }
+pub fn time_at(s: &[u8], at: usize, choices: Choices) -> Found<Time>
+    ensures { Says (time choices) s.now at (got_found result) (got_more result) }
 {
-    base_time(s, parser::past(s, at, 84), choices)
+    base_time(s, parser::past(s, at, b'T'), choices)
 }

@@ -1,120 +1,69 @@
 // Times of a plain form: a clock, its milliseconds or none, and what stands behind them.
-ghost use Rattle.std.specs.Prelude.{◌≡◌};
+ghost use Rattle.std.specs.Prelude.{◌≡◌, ◌+◌};
 ghost use Rattle.parser.specs.Reading.{Says};
+ghost use Rattle.parser.specs.Read.{got_found, got_more};
+ghost use Rattle.looks.specs.Clock.{plain_millisecond};
 ghost use Rattle.time.specs.Rules.{time};
-ghost use Rattle.time.specs.Plain.{with_offset, plain_time, first_plain};
-ghost use Rattle.time.specs.Answer.{time_found, time_more};
+ghost use Rattle.time.specs.Plain.{plain_time, with_millisecond, plain_at};
 
-use crate::{TimeFound, time_at};
+use crate::{Clock, time_at};
 use looks::{PlainClock, PlainOffset};
-use types::{Choices, Fraction, Time, TimeOffset};
+use parser::{Found, Got};
+use types::{Choices, Fraction, Time};
 
-// A time of the plain form; or no such time, and the rule has to tell. `more`: the input ended behind it.
-#[derive(Clone, Copy)]
-pub enum PlainTime {
-    Got {
-        value: Time,
-        next: usize,
-        more: bool,
-    },
-    Other,
-}
-
-// A clock and milliseconds of so many digits, with what stands behind them at `at`: the end of the input, or an offset.
-pub fn plain_time(
-    s: &[u8],
-    at: usize,
-    clock: PlainClock,
-    millisecond: u32,
-    digits: u32,
-) -> PlainTime
-    ensures { result ≡ plain_time s.now at clock millisecond digits }
+// A clock and its fraction, with what stands behind them at `at`: the end of the input, or an offset.
+fn plain_time(s: &[u8], at: usize, hands: PlainClock, fraction: Fraction) -> Option<Got<Time>>
+    ensures { result ≡ plain_time s.now at hands fraction }
 {
-    match clock {
-        PlainClock::Got {
-            hour,
-            minute,
-            second,
-        } => {
-            if 999 < millisecond {
-                return PlainTime::Other;
-            }
-            let offset = looks::plain_offset(s, at);
-            let nanosecond = millisecond * 1000000;
-            let fraction = Fraction { nanosecond, digits };
-            with_offset(hour, minute, second, fraction, at, offset)
-        }
-        PlainClock::Other => PlainTime::Other,
-    }
-}
-
-fn with_offset(
-    hour: u32,
-    minute: u32,
-    second: u32,
-    fraction: Fraction,
-    at: usize,
-    offset: PlainOffset,
-) -> PlainTime
-    ensures { result ≡ with_offset hour minute second fraction at offset }
-{
-    match offset {
-        PlainOffset::End => PlainTime::Got {
-            value: Time {
-                hour,
-                minute,
-                second,
-                nanosecond: fraction.nanosecond,
-                digits: fraction.digits,
-                offset: TimeOffset::Absent, // nothing stands there
-            },
+    let clock = Clock {
+        minute: hands.minute,
+        second: hands.second,
+        fraction,
+    };
+    match looks::plain_offset(s, at) {
+        PlainOffset::End => Some(Got {
+            value: clock.time_of(hands.hour, None),
             next: at,
             more: true,
-        },
-        PlainOffset::Got { value, next } => PlainTime::Got {
-            value: Time {
-                hour,
-                minute,
-                second,
-                nanosecond: fraction.nanosecond,
-                digits: fraction.digits,
-                offset: TimeOffset::Given(value),
-            },
+        }),
+        PlainOffset::Got { value, next } => Some(Got {
+            value: clock.time_of(hands.hour, Some(value)),
             next,
             more: false,
-        },
-        PlainOffset::Other => PlainTime::Other,
+        }),
+        PlainOffset::Other => None,
     }
 }
 
-// The first of two that is there.
-pub fn first_plain(first: PlainTime, second: PlainTime) -> PlainTime
-    ensures { result ≡ first_plain first second }
+// A clock with the milliseconds at `at`.
+#[tactic(auto, using(crate::proofs::plain::Laws::millisecond_room, crate::proofs::plain::Laws::millisecond_small))]
+fn with_millisecond(s: &[u8], at: usize, hands: PlainClock) -> Option<Got<Time>>
+    ensures { result ≡ with_millisecond s.now (at + 4) hands (plain_millisecond s.now at) }
 {
-    match first {
-        PlainTime::Got { value, next, more } => PlainTime::Got { value, next, more },
-        PlainTime::Other => second,
-    }
+    let millisecond = looks::plain_millisecond(s, at)?;
+    let fraction = Fraction {
+        nanosecond: millisecond * 1_000_000,
+        digits: 3,
+    };
+    plain_time(s, at + 4, hands, fraction)
 }
 
-// A time at the very beginning. The plain forms HH:MM:SS.mmm and HH:MM:SS, alone or with an offset, are tried before the rule.
-pub fn time_begun(s: &[u8], choices: Choices) -> TimeFound
-    ensures { Says (time choices) s.now 0 (time_found result) (time_more result) }
+// A time of the plain form HH:MM:SS.mmm or HH:MM:SS, alone or with an offset.
+#[tactic(auto, using(crate::proofs::plain::Laws::clock_room))]
+pub fn plain_at(s: &[u8], at: usize) -> Option<Got<Time>>
+    ensures { result ≡ plain_at s.now at }
 {
-    let clock = looks::plain_clock(s, 0);
-    let exact = plain_time(s, 12, clock, looks::plain_millisecond(s, 8), 3);
-    let plain = first_plain(exact, plain_time(s, 8, clock, 0, 0));
-    match plain {
-        PlainTime::Got { value, next, more } => TimeFound::Got { value, next, more },
-        PlainTime::Other => {
-            // taken apart and made anew: else the plain answer, too, would go through memory
-            let found = time_at(s, 0, choices);
-            match found {
-                TimeFound::Got { value, next, more } => TimeFound::Got { value, next, more },
-                TimeFound::Stopped => TimeFound::Stopped,
-                TimeFound::Wrong => TimeFound::Wrong,
-                TimeFound::Cut => TimeFound::Cut,
-            }
-        }
+    let hands = looks::plain_clock(s, at)?;
+    let exact = with_millisecond(s, at + 8, hands);
+    exact.or(plain_time(s, at + 8, hands, Fraction::NONE))
+}
+
+// A time at the very beginning. The plain forms are tried before the rule.
+pub fn time_begun(s: &[u8], choices: Choices) -> Found<Time>
+    ensures { Says (time choices) s.now 0 (got_found result) (got_more result) }
+{
+    match plain_at(s, 0) {
+        Some(read) => Ok(read),
+        None => time_at(s, 0, choices),
     }
 }

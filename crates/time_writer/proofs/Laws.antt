@@ -10,15 +10,16 @@ use native.Mathlib.Nat.{zero-div}
 use borrow.Author.Tests.{le-leb, eq-eqb, eqb-true, eqb-false, ne_eqb}
 use lib.Dec.{eqb}
 use lib.IntN.{nat_abs}
-use lib.ListN.{take}
+use lib.ListN.{length, take}
 use Rattle.types.specs.declared.Choices.{Choices}
 use Rattle.types.specs.declared.Edition.{Edition}
 use Rattle.types.specs.declared.Fraction.{Fraction}
 use Rattle.types.specs.declared.Reading.{Reading}
 use Rattle.types.specs.declared.Reading.TheVariants.{Old, Standard}
 use Rattle.types.specs.declared.Time.{Time}
-use Rattle.types.specs.declared.TimeOffset.{TimeOffset}
-use Rattle.types.specs.declared.TimeOffset.TheVariants.{Absent, Given}
+use Rattle.types.specs.declared.Offset.{Offset}
+use Rattle.std.specs.declared.option.Option as std_option
+use Rattle.std.specs.declared.option.Option.TheVariants.{None, Some}
 use Rattle.parser.specs.Reading.{lit, opt, pick}
 use Rattle.parser.specs.Digits.{is_digit, field, fraction_of}
 use Rattle.parser.specs.Fields.{preceded_by}
@@ -30,9 +31,12 @@ use Rattle.time.proofs.Behind.{of_second}
 use Rattle.writing.specs.Spelling.{padded, sign_byte, is_minus, is_zulu, shift_spelling, offset_spelling, clock_spelling, fraction_spelling, time_offset_spelling, time_spelling}
 use Rattle.writing.proofs.Texts.{ReadAs, Refuses, lit_reads, lit_refuses, lit_refuses_end, seq_reads, seq_refuses, map_reads, map_refuses, must_reads, opt_reads, opt_lacks, alt_first, alt_second, alt_refuses, whole}
 use Rattle.writing.proofs.Digits.{begins, field_reads, run_reads}
-use Rattle.writing.proofs.Laws.{Spells}
+use Rattle.writing.specs.Writing.{Measures, measure}
+use Rattle.writing.proofs.Laws.{Spells, measure_long, measure_none, none_measures, some_measures}
+use Rattle.parser.proofs.Fields.{and_right}
 use Rattle.offset_writer.proofs.Laws.{offset_reads_lem}
-use Rattle.time_writer.specs.Ranges.{time_offset_given, last_hour, up_to, time_given}
+use Rattle.time_writer.specs.Ranges.{time_offset_given, last_hour, up_to, clock_given, time_given}
+use Rattle.time_writer.proofs.Lengths.{time_size}
 use Rattle.time_writer.proofs.Nine.{FractionWithin, fraction_day, fraction_back}
 use Rattle.time_writer.proofs.Within.{hour_is, fraction_in, Within, time_within, last_small, no_digits}
 use Rattle.time_writer.proofs.Yields.{time_yields}
@@ -52,10 +56,10 @@ sign_behind : (t : Bool) (x : List ℕ) → Behind (sign_byte t ∷ x)
 sign_behind true x = behind_byte 45 x refl refl refl
 sign_behind false x = behind_byte 43 x refl refl refl
 
-offset_behind : (o : TimeOffset) → Behind (time_offset_spelling o)
+offset_behind : (o : std_option.Option Offset) → Behind (time_offset_spelling o)
 unfolding time_offset_spelling offset_spelling shift_spelling
-offset_behind Absent = record { no_comma = lit_refuses_end 44; no_point = lit_refuses_end 46; no_digit = refl }
-offset_behind (Given o) = go (is_zulu o)
+offset_behind None = record { no_comma = lit_refuses_end 44; no_point = lit_refuses_end 46; no_digit = refl }
+offset_behind (Some o) = go (is_zulu o)
   where
     go : (t : Bool) → Behind (pick t (90 ∷ []) (sign_byte (is_minus o) ∷ (padded 2 (nat_abs o.hours) ++ 58 ∷ padded 2 (nat_abs o.minutes))))
     go true = behind_byte 90 [] refl refl refl
@@ -65,10 +69,10 @@ offset_refuses_end : Refuses offset []
 unfolding offset offset_hour offset_zulu
 offset_refuses_end = alt_refuses (seq_refuses _ (alt_refuses (map_refuses _ (lit_refuses_end 45)) (map_refuses _ (lit_refuses_end 43)))) (map_refuses _ (lit_refuses_end 90))
 
-end_reads : (h : ℕ) (c : Clock) (o : TimeOffset) → time_offset_given o ≡ true → ReadAs (time_offset h c) (time_offset_spelling o) [] (record { hour = h; minute = c.minute; second = c.second; nanosecond = c.fraction.nanosecond; digits = c.fraction.digits; offset = o })
+end_reads : (h : ℕ) (c : Clock) (o : std_option.Option Offset) → time_offset_given o ≡ true → ReadAs (time_offset h c) (time_offset_spelling o) [] (record { hour = h; minute = c.minute; second = c.second; nanosecond = c.fraction.nanosecond; digits = c.fraction.digits; offset = o })
 unfolding time_offset time_offset_spelling time_offset_given
-end_reads h c Absent e = map_reads _ (opt_lacks offset_refuses_end)
-end_reads h c (Given o) e = map_reads _ (opt_reads (offset_reads_lem o [] e))
+end_reads h c None e = map_reads _ (opt_lacks offset_refuses_end)
+end_reads h c (Some o) e = map_reads _ (opt_reads (offset_reads_lem o [] e))
 
 -- ---- the fraction, and nothing where it has no digits
 
@@ -149,3 +153,21 @@ time_reads_lem c t e = seq_reads _ (opt_lacks (no_t t)) (base_reads c t e)
 
 pub time_spells : (c : Choices) → Spells (time c) time_spelling (time_given c)
 time_spells c = record { back = λ t e. whole (time_reads_lem c t e); ranges = λ t r. (time_yields c).fact r.bytes 0 t r.count r.reads }
+
+-- ---- what is measured, by the parts
+
+module _ (c : Choices) (t : Time) where
+  pub no_clock_measures : clock_given c.edition t ≡ false → Measures (time c) t (time_spelling t) None
+  unfolding time_given
+  no_clock_measures e = none_measures (time_spells c) t (rw e)
+
+  pub no_offset_measures : measure (time_offset_given t.offset) (length (time_offset_spelling t.offset)) ≡ None → Measures (time c) t (time_spelling t) None
+  unfolding time_given
+  no_offset_measures e = none_measures (time_spells c) t (and_right (clock_given c.edition t) (measure_none (time_offset_given t.offset) _ e))
+
+  pub parts_measure : {f n : ℕ} → clock_given c.edition t ≡ true → f ≡ length (fraction_spelling t.digits t.nanosecond) → measure (time_offset_given t.offset) (length (time_offset_spelling t.offset)) ≡ Some n
+      → Measures (time c) t (time_spelling t) (Some (8 + f + n))
+  unfolding time_given
+  parts_measure e g h =
+      let offset = measure_long (time_offset_given t.offset) h in
+      some_measures (time_spells c) t (rw (e, offset.0)) (omega (arith, time_size t, g, offset.1))

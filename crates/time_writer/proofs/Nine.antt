@@ -1,9 +1,10 @@
 -- The nine digits of a fraction: the first ones are what the code writes, digit by digit, and are read as the fraction where it fits them.
 use Prim.Native.Nat.{ℕ, suc, ◌+◌, ◌*◌, ◌-◌, ◌/◌, ◌%◌, ◌^◌, ◌≤◌, ◌<◌}
-use mathlib.Core.List.{List}
+use mathlib.Core.List.{List, [], ◌∷◌, ◌++◌}
 use mathlib.Core.Bool.{Bool, true, false}
 use mathlib.Core.Path.{◌≡◌, refl, sym, ap, ◌∙◌}
 use native.Mathlib.Omega.{arith}
+use native.Mathlib.Numerals.{add-one}
 use native.Mathlib.Nat.{pow-suc, one-le-pow, div-one, div-div-eq-div-mul, div-add-mod', div-lt_iff_lt-mul, mul-mod_left, mod-one}
 use borrow.Author.Tests.{eqb-true, eq-eqb, ltb-true, ltb-false, le-ltb, le-leb, leb-true}
 use lib.Dec.{ltb, leb}
@@ -46,6 +47,9 @@ first_of_nine k n = go (ltb 9 k) refl
 ten_pow : (k : ℕ) → 1 ≤ 10 ^ k
 ten_pow k = one-le-pow k 10 (omega arith)
 
+pub unit_some : (k : ℕ) → 0 < 10 ^ (9 - k)
+unit_some k = omega (arith, ten_pow (9 - k))
+
 power : (i unit : ℕ) → unit ≡ 10 ^ (9 - i) → i < 9 → unit ≡ 10 ^ (9 - (i + 1)) * 10
 power i unit e h = let one : 9 - i ≡ suc (9 - (i + 1)) = omega arith in e ∙ rw one (pow-suc 10 (9 - (i + 1)))
 
@@ -56,8 +60,12 @@ pub a_digit : (i unit : ℕ) → unit ≡ 10 ^ (9 - i) → i < 9 → 0 < unit / 
 a_digit i unit e h = omega (arith, tenth i unit e h, ten_pow (9 - (i + 1)))
 
 -- the first digits of nine, and one more
-pub first_digits : (n i unit : ℕ) → unit ≡ 10 ^ (9 - i) → i < 9 → n / (unit / 10) / 10 ≡ n / unit
+first_digits : (n i unit : ℕ) → unit ≡ 10 ^ (9 - i) → i < 9 → n / (unit / 10) / 10 ≡ n / unit
 first_digits n i unit e h = div-div-eq-div-mul n (unit / 10) 10 ∙ ap (λ (k : ℕ). n / k) (omega (arith, power i unit e h))
+
+pub digits_turn : (n i unit : ℕ) → unit ≡ 10 ^ (9 - i) → i < 9 → padded (i + 1) (n / (unit / 10)) ≡ padded i (n / unit) ++ (48 + n / (unit / 10) % 10) ∷ []
+unfolding padded
+digits_turn n i unit e h = rw (add-one i, first_digits n i unit e h)
 
 -- ---- read back
 

@@ -1,9 +1,9 @@
 -- The ranges of a time, by the hour: what the code tests, field by field.
-use Prim.Native.Nat.{ℕ, ◌%◌, ◌≤◌}
+use Prim.Native.Nat.{ℕ, ◌%◌, ◌<◌, ◌≤◌}
 use mathlib.Core.Bool.{Bool, true, false}
 use mathlib.Core.Path.{◌≡◌, refl}
 use native.Mathlib.Omega.{arith}
-use borrow.Author.Tests.{leb-true, eqb-true}
+use borrow.Author.Tests.{leb-true, le-leb, lt-leb, eqb-true, ne_eqb}
 use lib.Dec.{leb, eqb}
 use Rattle.types.specs.declared.Choices.{Choices}
 use Rattle.types.specs.declared.Edition.{Edition}
@@ -13,7 +13,7 @@ use Rattle.types.specs.declared.Time.{Time}
 use Rattle.parser.specs.Digits.{field}
 use Rattle.parser.proofs.Fields.{and_first, and_second}
 use Rattle.time.specs.Rules.{hour_of, ends_day, no_fraction}
-use Rattle.time_writer.specs.Ranges.{time_offset_given, last_hour, up_to, fraction_given, clock_given, time_given}
+use Rattle.time_writer.specs.Ranges.{time_offset_given, last_hour, up_to, fraction_given, behind_given, clock_given, time_given}
 use Rattle.time_writer.proofs.Nine.{FractionWithin, fraction_day}
 
 -- what stands behind an hour
@@ -72,3 +72,17 @@ no_digits f w z =
 pub hour_is : (e : Edition) → hour_of e ≡ field 2 0 (last_hour e)
 hour_is E2019 = refl
 hour_is E2004 = refl
+
+-- below 24 no hour ends the day, of either edition; 24 does, of 2004; and no edition goes further
+pub in_day : (e : Edition) (t : Time) → t.hour < 24 → clock_given e t ≡ behind_given 59 60 999999999 t
+unfolding clock_given
+in_day E2019 t h = rw (le-leb t.hour 23 (omega arith))
+in_day E2004 t h = rw (le-leb t.hour 24 (omega arith), ne_eqb t.hour 24 (λ e. omega arith))
+
+pub end_of_day : (t : Time) → t.hour ≡ 24 → clock_given E2004 t ≡ behind_given 0 0 0 t
+unfolding clock_given
+end_of_day t h = rw h
+
+pub past_last : (e : Edition) (t : Time) → last_hour e < t.hour → clock_given e t ≡ false
+unfolding clock_given
+past_last e t h = rw (lt-leb t.hour (last_hour e) h)

@@ -5,15 +5,16 @@ use Rattle.types.specs.declared.Choices.{Choices}
 use Rattle.types.specs.declared.Edition.{Edition}
 use Rattle.types.specs.declared.Edition.TheVariants.{E2004, E2019}
 use Rattle.types.specs.declared.Time.{Time}
-use Rattle.types.specs.declared.TimeOffset.{TimeOffset}
-use Rattle.types.specs.declared.TimeOffset.TheVariants.{Absent, Given}
+use Rattle.types.specs.declared.Offset.{Offset}
+use Rattle.std.specs.declared.option.Option.{Option}
+use Rattle.std.specs.declared.option.Option.TheVariants.{None, Some}
 use Rattle.parser.specs.Reading.{and}
 use Rattle.time.specs.Rules.{ends_day}
 use Rattle.offset_writer.specs.Ranges.{offset_given}
 
-unfoldable pub time_offset_given : TimeOffset → Bool
-time_offset_given Absent = true
-time_offset_given (Given o) = offset_given o
+unfoldable pub time_offset_given : Option Offset → Bool
+time_offset_given None = true
+time_offset_given (Some o) = offset_given o
 
 -- "The writer takes the edition too and writes hour 24 only for 2004."
 abbrev pub last_hour : Edition → ℕ

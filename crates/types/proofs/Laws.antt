@@ -7,8 +7,8 @@ use borrow.Author.Tests.{leb-true, leb-false, le-leb, le-ltb, lt-leb}
 use lib.Dec.{leb}
 use lib.IntN.{ℤ, pos, neg_ℤ, ◌*ℤ◌, neg_ℤ-+ℤ, negsuc}
 use Rattle.types.specs.declared.Offset.{Offset}
-use Rattle.types.specs.declared.InSeconds.{InSeconds}
-use Rattle.types.specs.declared.MadeOffset.TheVariants.{Made, Outside}
+use Rattle.std.specs.declared.option.Option.{Option}
+use Rattle.std.specs.declared.option.Option.TheVariants.{None, Some}
 use Rattle.types.specs.declared.Refusal.{Refusal}
 use Rattle.types.specs.declared.Refusal.TheVariants.{NoForm, TooBig, LeftOver}
 use Rattle.types.specs.Numbers.{number_of}
@@ -68,14 +68,14 @@ pub record Proper (o : Offset) : Type 0 where
   pub within : in_range o ≡ true
 
 -- what the constructor makes has one sign and lies between the ends
-pub made_is_proper : (minus : Bool) (h m : ℕ) (o : Offset) → made minus h m ≡ Made o → Proper o
+pub made_is_proper : (minus : Bool) (h m : ℕ) (o : Offset) → made minus h m ≡ Some o → Proper o
 unfolding made
 made_is_proper minus h m o e = go (leb h 23) (leb m 59) refl refl e
   where
-    outside : Outside ≡ Made o → ⊥
+    outside : None ≡ Some o → ⊥
     outside e = let z : ◌≡◌ {A = ℕ} 0 1 = cc in omega arith
 
-    go : (a b : Bool) → leb h 23 ≡ a → leb m 59 ≡ b → pick_made (and a b) (Made (signed_offset minus h m)) ≡ Made o → Proper o
+    go : (a b : Bool) → leb h 23 ≡ a → leb m 59 ≡ b → pick_made (and a b) (Some (signed_offset minus h m)) ≡ Some o → Proper o
     go true true ea eb e =
         let same : signed_offset minus h m ≡ o = cc in
         record { one_sign = rw (sym same) (same_sign_lem minus h m); within = rw (sym same) (in_range_lem minus h m (leb-true h 23 ea) (leb-true m 59 eb)) }
@@ -101,11 +101,11 @@ number_once LeftOver LeftOver e = refl
 -- ---- the seconds in all
 
 -- what has come to a sum of a so far
-pub record ComesTo (r : InSeconds) (a : ℕ) : Type 0 where
+pub record ComesTo (r : Option ℕ) (a : ℕ) : Type 0 where
   pub is : r ≡ or_over a
 
 -- a sum that was refused on the way is refused in the end, and no other is
-pub then_plus : {r q : InSeconds} {a : ℕ} (b : ℕ) → ComesTo q a → r ≡ plus q b → ComesTo r (a + b)
+pub then_plus : {r q : Option ℕ} {a : ℕ} (b : ℕ) → ComesTo q a → r ≡ plus q b → ComesTo r (a + b)
 then_plus {a = a} b e f = record { is = f ∙ rw e.is (go (leb a largest) refl) }
   where
     go : (t : Bool) → leb a largest ≡ t → plus (sum_or_over t a) b ≡ or_over (a + b)
@@ -113,7 +113,7 @@ then_plus {a = a} b e f = record { is = f ∙ rw e.is (go (leb a largest) refl) 
     go false e = sym (rw (lt-leb (a + b) largest (omega (arith, leb-false a largest e))))
 
 -- two sums together come to what both come to
-pub both_come : {r p q : InSeconds} {a b : ℕ} → ComesTo p a → ComesTo q b → r ≡ both p q → ComesTo r (a + b)
+pub both_come : {r p q : Option ℕ} {a b : ℕ} → ComesTo p a → ComesTo q b → r ≡ both p q → ComesTo r (a + b)
 both_come {a = a} {b = b} c d f = record { is = f ∙ rw (c.is, d.is) (go (leb b largest) refl) }
   where
     go : (t : Bool) → leb b largest ≡ t → both (or_over a) (sum_or_over t b) ≡ or_over (a + b)

@@ -3,10 +3,8 @@ use Rattle.std.specs.Prelude.{ℕ, ◌+◌, ◌*◌, Bool, true, false, not, ltb
 use Rattle.std.specs.Int.Signed.{le_z, lt_z}
 use Rattle.types.specs.declared.Offset.{Offset}
 use Rattle.types.specs.declared.Duration.{Duration}
-use Rattle.types.specs.declared.InSeconds.{InSeconds}
-use Rattle.types.specs.declared.InSeconds.TheVariants.{Sum, Over}
-use Rattle.types.specs.declared.MadeOffset.{MadeOffset}
-use Rattle.types.specs.declared.MadeOffset.TheVariants.{Made, Outside}
+use Rattle.std.specs.declared.option.Option.{Option}
+use Rattle.std.specs.declared.option.Option.TheVariants.{None, Some}
 
 abbrev pub and : Bool → Bool → Bool
 and true b = b
@@ -34,13 +32,13 @@ not_positive z = le_z z (pos 0)
 unfoldable pub same_sign : Offset → Bool
 same_sign o = or (and (not_negative o.hours) (not_negative o.minutes)) (and (not_positive o.hours) (not_positive o.minutes))
 
-abbrev pub pick_made : Bool → MadeOffset → MadeOffset
+abbrev pub pick_made : Bool → Option Offset → Option Offset
 pick_made true made = made
-pick_made false made = Outside
+pick_made false made = None
 
 -- hour 00 to 23, minute 00 to 59
-unfoldable pub made : Bool → ℕ → ℕ → MadeOffset
-made minus h m = pick_made (and (leb h 23) (leb m 59)) (Made (signed_offset minus h m))
+unfoldable pub made : Bool → ℕ → ℕ → Option Offset
+made minus h m = pick_made (and (leb h 23) (leb m 59)) (Some (signed_offset minus h m))
 
 -- "Minutes in all are 60 times hours plus minutes"
 abbrev pub minutes_in_all : Offset → ℤ
@@ -71,25 +69,25 @@ abbrev pub largest : ℕ
 largest = 18446744073709551615
 
 -- request W9: refused "exactly when the true sum is above the new limit"
-abbrev pub sum_or_over : Bool → ℕ → InSeconds
-sum_or_over true n = Sum n
-sum_or_over false n = Over
+abbrev pub sum_or_over : Bool → ℕ → Option ℕ
+sum_or_over true n = Some n
+sum_or_over false n = None
 
-abbrev pub or_over : ℕ → InSeconds
+abbrev pub or_over : ℕ → Option ℕ
 or_over n = sum_or_over (leb n largest) n
 
-unfoldable pub in_seconds : Duration → InSeconds
+unfoldable pub in_seconds : Duration → Option ℕ
 in_seconds d = or_over (seconds_of d)
 
 -- so much more, where nothing was refused yet
-abbrev pub plus : InSeconds → ℕ → InSeconds
-plus (Sum a) b = or_over (a + b)
-plus Over b = Over
+abbrev pub plus : Option ℕ → ℕ → Option ℕ
+plus (Some a) b = or_over (a + b)
+plus None b = None
 
 -- two sums together
-abbrev pub both : InSeconds → InSeconds → InSeconds
-both a (Sum b) = plus a b
-both a Over = Over
+abbrev pub both : Option ℕ → Option ℕ → Option ℕ
+both a (Some b) = plus a b
+both a None = None
 
 -- "`has_time` is true exactly when days, hours, minutes and seconds are all above 0"
 unfoldable pub has_time : Duration → Bool

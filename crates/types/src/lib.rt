@@ -1,7 +1,7 @@
 // The records that the readers make, the refusals and the verdict, and the small sums over them (types.rs).
 #![tactic(auto)]
 
-ghost use Rattle.std.specs.Prelude.{◌≡◌, ◌*◌, ◌<◌};
+ghost use Rattle.std.specs.Prelude.{◌≡◌, ◌*◌};
 ghost use Rattle.types.specs.Sums.{with_sign, minutes_in_all, in_range, made, plus, both, in_seconds, is_zero, has_time};
 ghost use Rattle.types.specs.Numbers.{number_of, sum_number};
 
@@ -65,13 +65,6 @@ pub struct Offset {
     pub minutes: i32,
 }
 
-// An offset that may be absent: absent is not zero.
-#[derive(Clone, Copy)]
-pub enum TimeOffset {
-    Absent,
-    Given(Offset),
-}
-
 // A fraction in billionths, which are nanoseconds of a second, and how many of its digits were written, more than nine as 9.
 #[derive(Clone, Copy)]
 pub struct Fraction {
@@ -96,7 +89,8 @@ pub struct Time {
     pub second: u32,
     pub nanosecond: u32,
     pub digits: u32,
-    pub offset: TimeOffset,
+    // absent is not zero
+    pub offset: Option<Offset>,
 }
 
 #[derive(Clone, Copy)]
@@ -139,20 +133,6 @@ pub struct Interval {
     pub range: IntervalRange,
 }
 
-// The seconds of a duration in all; or, refused, that they are more than 64 bits hold.
-#[derive(Clone, Copy)]
-pub enum InSeconds {
-    Sum(u64),
-    Over,
-}
-
-// What the constructor of an offset gives.
-#[derive(Clone, Copy)]
-pub enum MadeOffset {
-    Made(Offset),
-    Outside,
-}
-
 impl Refusal {
     // The paper's number.
     pub fn number(self) -> u32
@@ -185,17 +165,15 @@ impl Offset {
         minutes: 0,
     };
 
-    // The offset of a sign, hours 0 to 23 and minutes 0 to 59; anything else lies outside.
-    pub fn new(minus: bool, hours: u32, minutes: u32) -> MadeOffset
+    // The offset of a sign, hours 0 to 23 and minutes 0 to 59; there is none of anything else.
+    #[tactic(auto, unfolding(crate::specs::Sums::made))]
+    pub fn new(minus: bool, hours: u32, minutes: u32) -> Option<Offset>
         ensures { result ≡ made minus hours minutes }
     {
-        if 23 < hours {
-            return MadeOffset::Outside;
+        if 23 < hours || 59 < minutes {
+            return None;
         }
-        if 59 < minutes {
-            return MadeOffset::Outside;
-        }
-        MadeOffset::Made(Offset {
+        Some(Offset {
             hours: with_sign(minus, hours as u16),
             minutes: with_sign(minus, minutes as u16),
         })
@@ -211,111 +189,72 @@ impl Offset {
     }
 
     // Whether the minutes in all lie between the ends, both included.
+    #[tactic(auto, unfolding(crate::specs::Sums::in_range))]
     pub fn in_range(self) -> bool
         ensures { result ≡ in_range self }
     {
         let all = self.minutes_in_all();
-        if all < Offset::MIN_MINUTES {
-            return false;
-        }
-        all <= Offset::MAX_MINUTES
+        Offset::MIN_MINUTES <= all && all <= Offset::MAX_MINUTES
     }
 }
 
 impl Duration {
     // Whether all seven fields are 0.
+    #[tactic(auto, unfolding(crate::specs::Sums::is_zero))]
     pub fn is_zero(self) -> bool
         ensures { result ≡ is_zero self }
     {
-        if 0 < self.years {
-            return false;
-        }
-        if 0 < self.months {
-            return false;
-        }
-        if 0 < self.weeks {
-            return false;
-        }
-        if 0 < self.days {
-            return false;
-        }
-        if 0 < self.hours {
-            return false;
-        }
-        if 0 < self.minutes {
-            return false;
-        }
-        self.seconds == 0
+        self.years == 0
+            && self.months == 0
+            && self.weeks == 0
+            && self.days == 0
+            && self.hours == 0
+            && self.minutes == 0
+            && self.seconds == 0
     }
 
     // Whether days, hours, minutes and seconds are all above 0: the original's meaning, odd as it is.
+    #[tactic(auto, unfolding(crate::specs::Sums::has_time))]
     pub fn has_time(self) -> bool
         ensures { result ≡ has_time self }
     {
-        if self.days == 0 {
-            return false;
-        }
-        if self.hours == 0 {
-            return false;
-        }
-        if self.minutes == 0 {
-            return false;
-        }
-        0 < self.seconds
+        0 < self.days && 0 < self.hours && 0 < self.minutes && 0 < self.seconds
     }
 
-    // The seconds in all, with years of 365 days and months of 30: exact, or refused where they are more than 64 bits hold.
-    pub fn in_seconds(self) -> InSeconds
+    // The seconds in all, with years of 365 days and months of 30: exact, or none where they are more than 64 bits hold.
+    pub fn in_seconds(self) -> Option<u64>
         ensures { result ≡ in_seconds self }
     {
-        InSeconds::Sum(0)
-            .plus(self.years, 31536000)
-            .plus(self.months, 2592000)
-            .plus(self.weeks, 604800)
-            .plus(self.days, 86400)
-            .plus(self.hours, 3600)
-            .plus(self.minutes, 60)
-            .plus(self.seconds, 1)
+        let sum = plus(Some(0), self.years, 31536000);
+        let sum = plus(sum, self.months, 2592000);
+        let sum = plus(sum, self.weeks, 604800);
+        let sum = plus(sum, self.days, 86400);
+        let sum = plus(sum, self.hours, 3600);
+        let sum = plus(sum, self.minutes, 60);
+        plus(sum, self.seconds, 1)
     }
 }
 
-impl InSeconds {
-    // The largest sum.
-    const LIMIT: u64 = 18446744073709551615;
+// So many times a unit more.
+fn plus(sum: Option<u64>, n: u64, unit: u64) -> Option<u64>
+    ensures { result ≡ plus sum (n * unit) }
+{
+    sum?.checked_add(n.checked_mul(unit)?)
+}
 
-    // So many times a unit more.
-    fn plus(self, n: u64, unit: u64) -> InSeconds
-        requires { 0 < unit }
-        ensures { result ≡ plus self (n * unit) }
-    {
-        match self {
-            InSeconds::Sum(sum) => {
-                if (InSeconds::LIMIT - sum) / unit < n {
-                    return InSeconds::Over;
-                }
-                InSeconds::Sum(sum + n * unit)
-            }
-            InSeconds::Over => InSeconds::Over,
-        }
-    }
+// Both sums together: exact, or none where one was, or where they are more than 64 bits hold.
+pub fn both(sum: Option<u64>, more: Option<u64>) -> Option<u64>
+    ensures { result ≡ both sum more }
+{
+    plus(sum, more?, 1)
+}
 
-    // Both together: exact, or refused where one was, or where they are more than 64 bits hold.
-    pub fn and(self, more: InSeconds) -> InSeconds
-        ensures { result ≡ both self more }
-    {
-        match more {
-            InSeconds::Sum(n) => self.plus(n, 1),
-            InSeconds::Over => more,
-        }
-    }
-
-    // 0 or 7, the paper's number.
-    pub fn number(self) -> u32
-        ensures { result ≡ sum_number self }
-    {
-        match self {
-            InSeconds::Sum(_) => 0,
-            InSeconds::Over => 7,
-        }
+// 0 or 7, the paper's number of a sum.
+pub fn sum_number(sum: Option<u64>) -> u32
+    ensures { result ≡ sum_number sum }
+{
+    match sum {
+        Some(_) => 0,
+        None => 7,
     }
 }

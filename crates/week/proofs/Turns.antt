@@ -12,6 +12,7 @@ use Rattle.counts.specs.Counts.{table_of}
 use Rattle.logs.specs.declared.Week.{Week}
 use Rattle.logs.specs.Log.{longest, started}
 use Rattle.logs.proofs.Steps.{starts}
+use Rattle.week.specs.declared.Progress.{Progress}
 use Rattle.week.specs.Turns.{Took, Handed}
 
 past_more : (m taken : ℕ) (handed block : List ℕ) → taken ≡ length (take m handed) → or (ltb m (length handed)) (ltb (m - min taken m) (length block)) ≡ ltb m (length (handed ++ block))
@@ -31,10 +32,10 @@ past_more m taken handed block here = go (ltb m (length handed)) refl
         more true f = lt-ltb (m - min taken m) (length block) (omega (arith, all, left, ltb-true m (length (handed ++ block)) f, ltb-false m (length handed) e))
         more false f = le-ltb (m - min taken m) (length block) (omega (arith, all, left, ltb-false m (length (handed ++ block)) f, ltb-false m (length handed) e))
 
-pub begins : {kept : List ℕ} {table : List (List ℕ)} {w : Week} → table ≡ table_of [] → w ≡ started → Handed table kept w false
+pub begins : {kept : List ℕ} {table : List (List ℕ)} {w : Week} → table ≡ table_of [] → w ≡ started → Handed table kept (record { week = w; past = false })
 begins {kept} t w = record { handed = []; after = rw (t, w) (starts (length kept) kept); passed = refl }
 
-pub goes_on : {kept kept' : List ℕ} {table table' : List (List ℕ)} {w r : Week} {past more : Bool} → 205 ≤ length kept → Handed table kept w past → Took w past table kept table' kept' r more → Handed table' kept' r more
+pub goes_on : {kept kept' : List ℕ} {table table' : List (List ℕ)} {p r : Progress} → 205 ≤ length kept → Handed table kept p → Took p table kept table' kept' r → Handed table' kept' r
 goes_on long h t = record {
   handed = h.handed ++ t.block;
   after = rw t.steps.size (t.steps.goes long h.handed h.after);

@@ -3,72 +3,48 @@
 #![tactic(auto)]
 
 ghost use Rattle.std.specs.Prelude.{◌≤◌, length, IfOk};
-ghost use Rattle.weeks.specs.Blocks.{Within};
 ghost use Rattle.text.specs.Text.{Puts};
 ghost use Rattle.lines.specs.Lines.{lines};
 ghost use Rattle.logs.specs.Log.{input};
 ghost use Rattle.logs.specs.Table.{log_text};
 
-use lines::{Ended, lesser};
 use std::io;
 use std::io::{Input, Read};
 use std::process::ExitCode;
 use telling::tell;
 
-// Where a block of one byte and `more` ends, in a log of so many bytes.
-fn block_end(at: usize, more: usize, all: usize) -> usize
-    ensures { Within at all result }
-{
-    if at < all {
-        at + 1 + lesser(more, all - at - 1)
-    } else {
-        at
-    }
-}
-
-// Counts a log in blocks of one byte and `more`, and puts its table: that of its lines, however it is cut.
-fn count_in_blocks(log: &[u8], more: usize, out: &mut [u8]) -> usize
+// Counts a log in blocks of so many bytes, at least one, and puts its table: that of its lines, however it is cut.
+#[tactic(auto, using(crate::proofs::Along::begins, crate::proofs::Along::goes_on))]
+fn count_in_blocks(log: &[u8], size: usize, out: &mut [u8]) -> usize
     ensures { Puts (log_text (lines (input log.now))) out.old 0 out.new result }
 {
     let mut kept = [0u8; 256];
     let mut table = logs::no_counts();
     let mut week = logs::start();
-    let mut at = 0;
-    while at < log.len() {
-        let end = block_end(at, more, log.len());
-        week = logs::step(week, &mut table, &mut kept, &log[at..end]);
-        at = end;
+    for block in log.chunks(size.max(1)) {
+        week = logs::step(week, &mut table, &mut kept, block);
     }
     logs::finish(week, table, &kept, out)
 }
 
-fn report(rt: &impl Print, log: &[u8], more: usize) -> io::Result<()> {
+fn report(rt: &impl Print, log: &[u8], size: usize) -> io::Result<()> {
     let mut out = [0u8; 1024];
-    let n = count_in_blocks(log, more, &mut out);
+    let n = count_in_blocks(log, size, &mut out);
     rt.write_all(&out[..n])
 }
 
 fn try_log(rt: &impl Print, log: &[u8]) -> io::Result<()> {
-    report(rt, log, log.len())?;
-    report(rt, log, 0)?;
-    report(rt, log, 6)
+    for size in [log.len(), 1, 7] {
+        report(rt, log, size)?;
+    }
+    Ok(())
 }
 
 fn try_logs(rt: &impl Print, s: &[u8]) -> io::Result<()> {
-    let mut at = 0;
-    while at < s.len() {
-        let ended = lines::place_of(s, at, 28);
-        match ended {
-            Ended::At { end } => {
-                try_log(rt, &s[at..end])?;
-                at = end + 1;
-            }
-            Ended::Open => {
-                return try_log(rt, &s[at..]);
-            }
-        }
+    for log in s.split(|&b| b == 28) {
+        try_log(rt, log)?;
     }
-    try_log(rt, b"")
+    Ok(())
 }
 
 // Reads until the buffer is full or the input ends, and says how many bytes came.
@@ -76,6 +52,7 @@ fn read_full(input: &mut impl Read, buf: &mut [u8]) -> io::Result<usize>
     ensures { IfOk result (λ n. n ≤ length buf.new) }
 {
     let mut done = 0;
+    // Kept: each read says how far it came, and std's `read_to_end` needs a heap.
     while done < buf.len() {
         let n = input.read(&mut buf[done..])?;
         if n == 0 {

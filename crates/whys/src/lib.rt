@@ -4,7 +4,7 @@
 
 ghost use Rattle.whys.specs.Promise.{WhyTells};
 
-use kinds::answer::Letter;
+use kinds::answer::among_five;
 use types::Choices;
 
 // No letter of a kind.
@@ -16,13 +16,12 @@ const NO_SUCH_KIND: u32 = 253;
 pub extern "C" fn tirozhbar_why(kind: u8, s: &[u8], place: &mut u64) -> u32
     ensures { WhyTells kind s.now place.old place.new result }
 {
-    let named = kinds::kind_of(kind, Choices::DOCUMENT_01).among_five();
-    match named {
-        Letter::Names(kind) => {
+    match among_five(kinds::kind_of(kind, Choices::DOCUMENT_01)) {
+        Some(kind) => {
             let reason = breaks::why(kind, s);
             *place = reason.handed(s.len()) as u64;
             reason.number()
         }
-        Letter::Unknown => NO_SUCH_KIND,
+        None => NO_SUCH_KIND,
     }
 }

@@ -3,8 +3,8 @@ use Rattle.std.specs.Prelude.{ℕ, Bool, true, false, List, [], ◌∷◌, ◌++
 use Rattle.types.specs.declared.Verdict.{Verdict}
 use Rattle.types.specs.declared.Verdict.TheVariants.{Settled, Open}
 use Rattle.types.specs.declared.Offset.{Offset}
-use Rattle.types.specs.declared.TimeOffset.{TimeOffset}
-use Rattle.types.specs.declared.TimeOffset.TheVariants.{Absent, Given}
+use Rattle.std.specs.declared.option.Option.{Option}
+use Rattle.std.specs.declared.option.Option.TheVariants.{None, Some}
 use Rattle.types.specs.declared.Time.{Time}
 use Rattle.types.specs.declared.Date.{Date}
 use Rattle.types.specs.declared.Date.TheVariants.{YMD, Week, Ordinal}
@@ -14,8 +14,6 @@ use Rattle.types.specs.declared.Repetitions.TheVariants.{Once, Unlimited, Times}
 use Rattle.types.specs.declared.IntervalRange.{IntervalRange}
 use Rattle.types.specs.declared.IntervalRange.TheVariants as range
 use Rattle.types.specs.declared.Interval.{Interval}
-use Rattle.types.specs.declared.InSeconds.{InSeconds}
-use Rattle.types.specs.declared.InSeconds.TheVariants.{Sum, Over}
 use Rattle.types.specs.Sums.{minutes_in_all, in_seconds}
 use Rattle.words.specs.Words.{signed_word}
 use Rattle.words.specs.declared.word.Name.TheVariants as name
@@ -41,9 +39,9 @@ abbrev pub offset_words : Offset → List Word
 offset_words o = Named name.Offset ∷ signed_word o.hours ∷ signed_word o.minutes ∷ signed_word (minutes_in_all o) ∷ []
 
 -- `none`, or the signed minutes in all
-abbrev pub time_offset_word : TimeOffset → Word
-time_offset_word Absent = Named name.None
-time_offset_word (Given o) = signed_word (minutes_in_all o)
+abbrev pub time_offset_word : Option Offset → Word
+time_offset_word None = Named name.None
+time_offset_word (Some o) = signed_word (minutes_in_all o)
 
 -- `time HOUR MINUTE SECOND NANO OFFSET DIGITS`
 abbrev pub time_words : Bool → Time → List Word
@@ -58,9 +56,9 @@ date_words (Week y w d) = Named name.Week ∷ signed_word y ∷ Number w ∷ Num
 date_words (Ordinal y d) = Named name.Ordinal ∷ signed_word y ∷ Number d ∷ []
 
 -- "`over` for SECONDS where the sum is refused"
-abbrev pub seconds_word : InSeconds → Word
-seconds_word (Sum n) = Number n
-seconds_word Over = Named name.Over
+abbrev pub seconds_word : Option ℕ → Word
+seconds_word (Some n) = Number n
+seconds_word None = Named name.Over
 
 -- `duration Y MO W D H MI S SECONDS`
 abbrev pub duration_words : Duration → List Word

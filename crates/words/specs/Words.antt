@@ -1,6 +1,5 @@
 -- The words that an answer is made of, and how each is written.
-use Rattle.std.specs.Prelude.{ℕ, zero, suc, ◌/◌, ◌%◌, List, [], ◌∷◌, ◌++◌, ℤ, pos, negsuc, eqb}
-use Rattle.parser.specs.Reading.{pick}
+use Rattle.std.specs.Prelude.{ℕ, suc, List, [], ◌∷◌, ◌++◌, ℤ, pos, negsuc}
 use Rattle.text.specs.Text.{decimal}
 use Rattle.words.specs.declared.word.Name.{Name}
 use Rattle.words.specs.declared.word.Name.TheVariants as name
@@ -25,11 +24,6 @@ letters_of name.Once = 111 ∷ 110 ∷ 99 ∷ 101 ∷ []
 letters_of name.Repeat = 82 ∷ []
 letters_of name.Stamp = 115 ∷ 116 ∷ 97 ∷ 109 ∷ 112 ∷ []
 letters_of name.Slash = 47 ∷ []
-
--- at most k bytes that stand in a number, the first in its low byte
-unfoldable pub packed : ℕ → ℕ → List ℕ
-packed zero n = []
-packed (suc k) n = pick (eqb n 0) [] (n % 256 ∷ packed k (n / 256))
 
 -- a word behind its space
 abbrev pub spaced : List ℕ → List ℕ

@@ -1,23 +1,10 @@
-// The words of each record. A row has room for the longest, and ends in places to spare.
+// The words of each record, in a row. A row that may have a word less hides it.
 ghost use Rattle.std.specs.Prelude.{◌≡◌, [], ◌∷◌};
 ghost use Rattle.words.specs.Words.{text_of};
-ghost use Rattle.words.specs.Records.{verdict_word, shown_word, head_words, offset_words, time_offset_word, time_words, date_words, seconds_word, duration_words, shape_words, interval_words};
-ghost use Rattle.words.specs.declared.word.Name.TheVariants as name;
-ghost use Rattle.words.specs.declared.word.Word.TheVariants.{Name as Named};
+ghost use Rattle.words.specs.Records.{verdict_word, shown_word, head_words, offset_words, time_offset_word, time_words, date_words, seconds_word, duration_words, repeat_words, shape_words, interval_words};
 
 use crate::word::{Name, Word, signed, small};
-use types::{
-    Date, Duration, InSeconds, Interval, IntervalRange, Offset, Repetitions, Time, TimeOffset,
-    Verdict,
-};
-
-// A row of four words.
-fn four(a: Word, b: Word, c: Word, d: Word) -> [Word; 9]
-    ensures { text_of result ≡ text_of (a ∷ b ∷ c ∷ d ∷ []) }
-{
-    let no = Word::Nothing;
-    [a, b, c, d, no, no, no, no, no]
-}
+use types::{Date, Duration, Interval, IntervalRange, Offset, Repetitions, Time, Verdict};
 
 // settled, open
 pub fn verdict_word(verdict: Verdict) -> Word
@@ -42,91 +29,87 @@ pub fn head(
     verdict: Verdict,
     whole: u64,
     whole_count: usize,
-) -> [Word; 9]
+) -> [Word; 4]
     ensures { text_of result ≡ text_of (head_words count shown verdict whole whole_count) }
 {
-    four(
+    [
         Word::Number(count as u64),
         shown_word(shown, verdict_word(verdict)),
         Word::Number(whole),
         Word::Number(whole_count as u64),
-    )
+    ]
 }
 
 // offset HOURS MINUTES TOTAL
-pub fn offset(v: Offset) -> [Word; 9]
+pub fn offset(v: Offset) -> [Word; 4]
     ensures { text_of result ≡ text_of (offset_words v) }
 {
-    four(
+    [
         Word::Name(Name::Offset),
         small(v.hours),
         small(v.minutes),
         signed(v.minutes_in_all()),
-    )
+    ]
 }
 
 // none, or the signed minutes in all
-fn time_offset(v: TimeOffset) -> Word
+fn time_offset(v: Option<Offset>) -> Word
     ensures { result ≡ time_offset_word v }
 {
     match v {
-        TimeOffset::Absent => Word::Name(Name::None),
-        TimeOffset::Given(offset) => signed(offset.minutes_in_all()),
+        None => Word::Name(Name::None),
+        Some(offset) => signed(offset.minutes_in_all()),
     }
 }
 
 // time HOUR MINUTE SECOND NANO OFFSET [DIGITS]
-pub fn time(v: Time, shown: bool) -> [Word; 9]
+pub fn time(v: Time, shown: bool) -> [Word; 7]
     ensures { text_of result ≡ text_of (time_words shown v) }
 {
-    let offset = v.offset;
-    let no = Word::Nothing;
     [
         Word::Name(Name::Time),
         Word::Number(v.hour as u64),
         Word::Number(v.minute as u64),
         Word::Number(v.second as u64),
         Word::Number(v.nanosecond as u64),
-        time_offset(offset),
+        time_offset(v.offset),
         shown_word(shown, Word::Number(v.digits as u64)),
-        no,
-        no,
     ]
 }
 
 // ymd YEAR MONTH DAY, week YEAR WEEK DAY or ordinal YEAR DAY
-pub fn date(v: Date) -> [Word; 9]
+pub fn date(v: Date) -> [Word; 4]
     ensures { text_of result ≡ text_of (date_words v) }
 {
     match v {
-        Date::YMD { year, month, day } => four(
+        Date::YMD { year, month, day } => [
             Word::Name(Name::Ymd),
             small(year),
             Word::Number(month as u64),
             Word::Number(day as u64),
-        ),
-        Date::Week { year, week, day } => four(
+        ],
+        Date::Week { year, week, day } => [
             Word::Name(Name::Week),
             small(year),
             Word::Number(week as u64),
             Word::Number(day as u64),
-        ),
-        Date::Ordinal { year, day } => four(
+        ],
+        Date::Ordinal { year, day } => [
             Word::Name(Name::Ordinal),
             small(year),
             Word::Number(day as u64),
             Word::Nothing,
-        ),
+        ],
     }
 }
 
 // The seconds in all, or over
-pub fn seconds_word(v: InSeconds) -> Word
+pub fn seconds_word(v: Option<u64>) -> Word
     ensures { result ≡ seconds_word v }
 {
     match v {
-        InSeconds::Sum(n) => Word::Number(n),
-        InSeconds::Over => Word::Name(Name::Over),
+        Some(n) => Word::Number(n),
+        None => Word::Name(Name::Over),
     }
 }
 
@@ -147,59 +130,44 @@ pub fn duration(v: Duration) -> [Word; 9]
     ]
 }
 
-// An interval's row: how often, in two words, and one side, or two with the slash between.
-fn interval_row(repeat: Name, times: Word, side: Name, slash: Word, other: Word) -> [Word; 9]
-    ensures { text_of result ≡ text_of (Named name.Interval ∷ Named repeat ∷ times ∷ Named side ∷ slash ∷ other ∷ []) }
-{
-    let no = Word::Nothing;
-    [
-        Word::Name(Name::Interval),
-        Word::Name(repeat),
-        times,
-        Word::Name(side),
-        slash,
-        other,
-        no,
-        no,
-        no,
-    ]
-}
-
-// interval, REPEAT in two words, and stamp/stamp, duration/stamp, stamp/duration or duration
-fn shaped(repeat: Name, times: Word, range: IntervalRange) -> [Word; 9]
-    ensures { text_of result ≡ text_of (Named name.Interval ∷ Named repeat ∷ times ∷ shape_words range) }
+// stamp/stamp, duration/stamp, stamp/duration, or duration and no other side
+fn shape(range: IntervalRange) -> (Word, Word, Word)
+    ensures { text_of (result.0 ∷ result.1 ∷ result.2 ∷ []) ≡ text_of (shape_words range) }
 {
     let slash = Word::Joined(Name::Slash);
     let stamp = Word::Joined(Name::Stamp);
     let duration = Word::Joined(Name::Duration);
-    let no = Word::Nothing;
     match range {
-        IntervalRange::Closed { start: _, end: _ } => {
-            interval_row(repeat, times, Name::Stamp, slash, stamp)
-        }
-        IntervalRange::ClosedEnd {
-            duration: _,
-            end: _,
-        } => interval_row(repeat, times, Name::Duration, slash, stamp),
-        IntervalRange::ClosedStart {
-            start: _,
-            duration: _,
-        } => interval_row(repeat, times, Name::Stamp, slash, duration),
-        IntervalRange::Open { duration: _ } => {
-            interval_row(repeat, times, Name::Duration, no, no)
-        }
+        IntervalRange::Closed { .. } => (Word::Name(Name::Stamp), slash, stamp),
+        IntervalRange::ClosedEnd { .. } => (Word::Name(Name::Duration), slash, stamp),
+        IntervalRange::ClosedStart { .. } => (Word::Name(Name::Stamp), slash, duration),
+        IntervalRange::Open { .. } => (Word::Name(Name::Duration), Word::Nothing, Word::Nothing),
     }
 }
 
-// interval REPEAT SHAPE, REPEAT being once, R or R5
-pub fn interval(v: Interval) -> [Word; 9]
+// once, R or R5
+fn repeat(repetitions: Repetitions) -> (Word, Word)
+    ensures { text_of (result.0 ∷ result.1 ∷ []) ≡ text_of (repeat_words repetitions) }
+{
+    match repetitions {
+        Repetitions::Once => (Word::Name(Name::Once), Word::Nothing),
+        Repetitions::Unlimited => (Word::Name(Name::Repeat), Word::Nothing),
+        Repetitions::Times(n) => (Word::Name(Name::Repeat), Word::Digits(n as u64)),
+    }
+}
+
+// interval REPEAT SHAPE
+pub fn interval(v: Interval) -> [Word; 6]
     ensures { text_of result ≡ text_of (interval_words v) }
 {
-    let repetitions = v.repetitions;
-    let range = v.range;
-    match repetitions {
-        Repetitions::Once => shaped(Name::Once, Word::Nothing, range),
-        Repetitions::Unlimited => shaped(Name::Repeat, Word::Nothing, range),
-        Repetitions::Times(n) => shaped(Name::Repeat, Word::Digits(n as u64), range),
-    }
+    let (repeat, times) = repeat(v.repetitions);
+    let (side, slash, other) = shape(v.range);
+    [
+        Word::Name(Name::Interval),
+        repeat,
+        times,
+        side,
+        slash,
+        other,
+    ]
 }

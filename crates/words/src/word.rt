@@ -1,7 +1,8 @@
 // The words that an answer is made of.
 ghost use Rattle.std.specs.Prelude.{◌≡◌};
-ghost use Rattle.words.specs.Words.{packed, letters_of, signed_word};
+ghost use Rattle.words.specs.Words.{letters_of, signed_word};
 
+// The words that are spelled the same each time.
 #[derive(Clone, Copy)]
 pub enum Name {
     Ymd,
@@ -24,7 +25,7 @@ pub enum Name {
 }
 
 // A word with the space before it; Joined and Digits are the rest of the word before them, a name or a number with no space. Nothing is no
-// word: rows of words have places to spare.
+// word: a row of words may hide one.
 #[derive(Clone, Copy)]
 pub enum Word {
     Name(Name),
@@ -35,28 +36,29 @@ pub enum Word {
     Nothing,
 }
 
-// A name's letters in one number, the first in its low byte.
-pub fn letters(name: Name) -> u64
-    ensures { packed 8 result ≡ letters_of name }
+// A name's letters.
+#[tactic(auto, unfolding(crate::specs::Words::letters_of))]
+pub fn letters(name: Name) -> &'static [u8]
+    ensures { result.now ≡ letters_of name }
 {
     match name {
-        Name::Ymd => 0x646d79, // ymd
-        Name::Week => 0x6b656577, // week
-        Name::Ordinal => 0x6c616e6964726f, // ordinal
-        Name::Time => 0x656d6974, // time
-        Name::Offset => 0x74657366666f, // offset
-        Name::Duration => 0x6e6f697461727564, // duration
-        Name::Settled => 0x64656c74746573, // settled
-        Name::Open => 0x6e65706f, // open
-        Name::None => 0x656e6f6e, // none
-        Name::Over => 0x7265766f, // over
-        Name::Dash => 0x2d, // -
-        Name::Unknown => 0x6e776f6e6b6e75, // unknown
-        Name::Interval => 0x6c61767265746e69, // interval
-        Name::Once => 0x65636e6f, // once
-        Name::Repeat => 0x52, // R
-        Name::Stamp => 0x706d617473, // stamp
-        Name::Slash => 0x2f, // /
+        Name::Ymd => b"ymd",
+        Name::Week => b"week",
+        Name::Ordinal => b"ordinal",
+        Name::Time => b"time",
+        Name::Offset => b"offset",
+        Name::Duration => b"duration",
+        Name::Settled => b"settled",
+        Name::Open => b"open",
+        Name::None => b"none",
+        Name::Over => b"over",
+        Name::Dash => b"-",
+        Name::Unknown => b"unknown",
+        Name::Interval => b"interval",
+        Name::Once => b"once",
+        Name::Repeat => b"R",
+        Name::Stamp => b"stamp",
+        Name::Slash => b"/",
     }
 }
 
@@ -65,9 +67,7 @@ pub fn signed(n: i64) -> Word
     ensures { result ≡ signed_word n }
 {
     if n < 0 {
-        // The least number's negation does not fit, and that of the next number does.
-        let less = 0 - (n + 1);
-        Word::Minus((less as u64) + 1)
+        Word::Minus(n.unsigned_abs())
     } else {
         Word::Number(n as u64)
     }
@@ -77,5 +77,5 @@ pub fn signed(n: i64) -> Word
 pub fn small(n: i32) -> Word
     ensures { result ≡ signed_word n }
 {
-    signed(n as i64)
+    signed(i64::from(n))
 }

@@ -5,7 +5,8 @@ use mathlib.Core.Path.{◌≡◌}
 use Rattle.parser.specs.Reading.{Found, no, got, stop, Reader, map, map_found}
 use Rattle.parser.proofs.Places.{no≢got, stop≢got, got_value, got_place}
 use Rattle.kinds.proofs.As.{Injective}
-use Rattle.writing.specs.declared.Written.{Written}
+use Rattle.std.specs.Prelude.{Result}
+use Rattle.writing.specs.declared.Unwritten.{Unwritten}
 use Rattle.writing.specs.Writing.{Readable, Writes}
 
 module _ {A B : Type 0} (f : A → B) (once : Injective f) {p : Reader A} {a : A} where
@@ -22,5 +23,5 @@ module _ {A B : Type 0} (f : A → B) (once : Injective f) {p : Reader A} {a : A
       go (stop n) e = absurd (stop≢got e)
       go (got b n) e = rw (once b a (got_value e), got_place e)
 
-  pub writes_as : {t old new : List ℕ} {w : Written} → Writes p a t old new w → Writes (map f p) (f a) t old new w
+  pub writes_as : {t old new : List ℕ} {w : Result ℕ Unwritten} → Writes p a t old new w → Writes (map f p) (f a) t old new w
   writes_as h = record { unread = λ z. h.unread (λ r. z (readable_as r)); short = λ r. h.short (readable_back r); fits = λ r. h.fits (readable_back r) }

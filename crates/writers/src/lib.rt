@@ -13,10 +13,10 @@ use kinds::answer::Record;
 use offset_writer::write_offset;
 use time_writer::write_time;
 use types::Choices;
-use writing::Written;
+use writing::Unwritten;
 
 // Writes the record's spelling to the front of the buffer, under the choices.
-pub fn write(value: Record, choices: Choices, buffer: &mut [u8]) -> Written
+pub fn write(value: Record, choices: Choices, buffer: &mut [u8]) -> Result<usize, Unwritten>
     ensures { Writes (rule_of (kind_of choices value)) value (spelling value) buffer.old buffer.new result }
 {
     match value {

@@ -4,12 +4,12 @@ use mathlib.Core.List.{List, [], ◌∷◌, ◌++◌, append_assoc, append-nil}
 use mathlib.Core.Bool.{Bool, true, false}
 use mathlib.Core.Path.{◌≡◌, refl, sym, ap, ◌∙◌}
 use native.Mathlib.Omega.{arith}
-use native.Mathlib.Nat.{add-zero, add-suc, pow-suc, pow-succ', div-one, div-div-eq-div-mul}
 use native.Mathlib.Numerals.{add-one}
+use native.Mathlib.Nat.{add-zero, add-suc, one-le-pow, pow-suc, pow-succ', div-one, div-div-eq-div-mul}
 use borrow.Author.Tests.{lt-ltb, le-ltb, le-leb, ltb-true}
 use lib.Dec.{ltb}
 use lib.IntN.{nat_abs}
-use lib.ListN.{length, get_or, length-append}
+use lib.ListN.{length, get_or, set, length-append}
 use lib.Seq.{get_or-append_seam, drop-append_seam}
 use Rattle.types.specs.Sums.{with_sign}
 use Rattle.parser.specs.Reading.{no, got, lit, pick, within}
@@ -17,7 +17,8 @@ use Rattle.parser.specs.Digits.{is_digit, digits_from, field, digits, number_fro
 use Rattle.parser.proofs.Fields.{DigitAt, digits_from_suc, digits_from_other, digits_from_end}
 use Rattle.parser.proofs.Runs.{AllDigits, none, also, number_append}
 use Rattle.parser.proofs.Leaves.{digit_is_not}
-use Rattle.text.specs.Text.{decimal, decimal_of}
+use Rattle.text.specs.Text.{Puts, decimal, decimal_of}
+use Rattle.text.proofs.Laws.{sets_puts}
 use Rattle.writing.specs.Spelling.{padded}
 use Rattle.writing.proofs.Texts.{ReadAs, Refuses, lit_refuses}
 
@@ -77,6 +78,21 @@ padded_hundred v =
     let tens : v % 100 / 10 % 10 ≡ v / 10 % 10 = omega arith in
     let ones : v % 100 % 10 ≡ v % 10 = omega arith in
     rw (tens, ones)
+
+pub padded_three : (v : ℕ) → padded 3 v ≡ (48 + v / 100 % 10) ∷ padded 2 (v % 100)
+unfolding padded
+padded_three v = padded_split 1 2 v ∙ ap (λ (l : List ℕ). (48 + v / 100 % 10) ∷ l) (sym (padded_hundred v))
+
+pub padded_four : (v : ℕ) → padded 4 v ≡ padded 2 (v / 100) ++ padded 2 (v % 100)
+padded_four v = padded_split 2 2 v ∙ ap (λ (l : List ℕ). padded 2 (v / 100) ++ l) (sym (padded_hundred v))
+
+-- both digits of a number below 100, stored at one go
+pub two_at_one_go : (n at : ℕ) (l : List ℕ) → n < 100 → at + 2 ≤ length l → Puts (padded 2 n) l at (set (set l at (48 + n / 10)) (at + 1) (48 + (n - n / 10 * 10))) (at + 2)
+unfolding padded
+two_at_one_go n at l small room =
+    let tens : n / 10 % 10 ≡ n / 10 = omega arith in
+    let ones : n % 10 ≡ n - n / 10 * 10 = omega arith in
+    rw (tens, ones, add-one at) (sets_puts _ l at room)
 
 -- in front of digits no other byte is read
 pub padded_refuses : (c n v : ℕ) (x : List ℕ) → is_digit c ≡ false → Refuses (lit c) (padded (suc n) v ++ x)
@@ -188,26 +204,28 @@ decimal_within most r n x l h o =
 pub decimal_reads : (n : ℕ) (x : List ℕ) → n ≤ limit → begins x ≡ false → ReadAs run (decimal n) x n
 decimal_reads n x l o = decimal_within limit 2 n x l (omega arith) o
 
--- ---- how many digits it has: a tenth of a number has one less
+-- ---- how many digits it has
 
 pub one_digit : (k n : ℕ) → n < 10 → decimal_of (suc k) n ≡ (48 + n) ∷ []
 unfolding decimal_of
 one_digit k n h = rw (lt-ltb n 10 h)
 
--- room for a digit more changes nothing
-steady : (k n : ℕ) → n < 10 ^ suc k → decimal_of (suc (suc k)) n ≡ decimal_of (suc k) n
+-- between a power of ten and the next
+digits_between : (k m n : ℕ) → k < m → 10 ^ k ≤ n → n < 10 ^ suc k → length (decimal_of m n) ≡ suc k
 unfolding decimal_of
-steady zero n h = rw (lt-ltb n 10 (omega (arith, pow-suc 10 0)))
-steady (suc k) n h = ap (λ (l : List ℕ). pick (ltb n 10) ((48 + n) ∷ []) (l ++ (48 + n % 10) ∷ [])) (steady k (n / 10) (omega (arith, pow-suc 10 (suc k))))
+digits_between zero (suc m) n h l g = rw (lt-ltb n 10 (omega (arith, pow-suc 10 0)))
+digits_between (suc k) (suc m) n h l g =
+    let up = pow-suc 10 k in
+    let least : 1 ≤ 10 ^ k = one-le-pow k 10 (omega arith) in
+    let rest = digits_between k m (n / 10) (omega arith) (omega arith) (omega (arith, pow-suc 10 (suc k))) in
+    rw (le-ltb n 10 (omega arith)) (length-append (decimal_of m (n / 10)) ((48 + n % 10) ∷ []) ∙ omega arith)
+digits_between k zero n h l g = absurd (omega arith)
 
-digit_less : (k n : ℕ) → 9 < n → n < 10 ^ suc (suc k) → length (decimal_of (suc (suc k)) n) ≡ suc (length (decimal_of (suc (suc k)) (n / 10)))
-unfolding decimal_of
-digit_less k n l h =
-    let e = steady k (n / 10) (omega (arith, pow-suc 10 (suc k))) in
-    rw (e, le-ltb n 10 l) (length-append (decimal_of (suc k) (n / 10)) ((48 + n % 10) ∷ []) ∙ add-one _)
+pub decimal_between : (k n : ℕ) → 10 ^ k ≤ n → n < 10 * 10 ^ k → k < 20 → length (decimal n) ≡ k + 1
+decimal_between k n l g h = digits_between k 20 n h l (omega (arith, pow-suc 10 k)) ∙ omega arith
 
-pub decimal_less : (n : ℕ) → 9 < n → n < 10 ^ 20 → length (decimal n) ≡ suc (length (decimal (n / 10)))
-decimal_less n l h = digit_less 18 n l h
+pub decimal_zero : length (decimal 0) ≡ 1
+decimal_zero = rw (one_digit 19 0 (omega arith))
 
 -- below ten to the power of so many, at most so many
 pub digits_few : (k m n : ℕ) → n < 10 ^ suc k → length (decimal_of m n) ≤ suc k

@@ -2,8 +2,8 @@
 -- letters.
 use Rattle.std.specs.Prelude.{ℕ, zero, suc, ◌+◌, ◌/◌, ◌%◌, List, [], ◌∷◌, ◌++◌, Bool, true, false, eqb, take, ℤ, pos, negsuc, nat_abs}
 use Rattle.types.specs.declared.Offset.{Offset}
-use Rattle.types.specs.declared.TimeOffset.{TimeOffset}
-use Rattle.types.specs.declared.TimeOffset.TheVariants.{Absent, Given}
+use Rattle.std.specs.declared.option.Option.{Option}
+use Rattle.std.specs.declared.option.Option.TheVariants.{None, Some}
 use Rattle.types.specs.declared.Time.{Time}
 use Rattle.types.specs.declared.Date.{Date}
 use Rattle.types.specs.declared.Date.TheVariants.{YMD, Week, Ordinal}
@@ -55,9 +55,9 @@ clock_spelling h m s = padded 2 h ++ 58 ∷ padded 2 m ++ 58 ∷ padded 2 s
 unfoldable pub fraction_spelling : ℕ → ℕ → List ℕ
 fraction_spelling k n = pick (eqb k 0) [] (46 ∷ take k (padded 9 n))
 
-unfoldable pub time_offset_spelling : TimeOffset → List ℕ
-time_offset_spelling Absent = []
-time_offset_spelling (Given o) = offset_spelling o
+unfoldable pub time_offset_spelling : Option Offset → List ℕ
+time_offset_spelling None = []
+time_offset_spelling (Some o) = offset_spelling o
 
 unfoldable pub time_spelling : Time → List ℕ
 time_spelling t = clock_spelling t.hour t.minute t.second ++ fraction_spelling t.digits t.nanosecond ++ time_offset_spelling t.offset

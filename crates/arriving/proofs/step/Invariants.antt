@@ -6,7 +6,7 @@ use Rattle.arriving.proofs.Pushing.{Pushed}
 use Rattle.arriving.proofs.step.Given as goal
 
 abbrev pub invariant-loop-i : goal.invariant-loop-i
-invariant-loop-i l = Pushed l.initial.state l.piece (record { kind = l.state.kind; kept = l.state.kept; places = l.state.places; len = l.len; mark = l.mark; accepted = l.accepted }) l.i
+invariant-loop-i l = Pushed l.initial.state l.piece l.state l.i
 
 abbrev pub decreases-loop-i : goal.decreases-loop-i
 decreases-loop-i l = length l.piece - l.i

@@ -4,7 +4,6 @@ use mathlib.Core.List.{[]}
 use mathlib.Core.Path.{refl, ◌∙◌}
 use native.Mathlib.Omega.{arith}
 use lib.ListN.{take}
-use borrow.Author.Rules.{rules}
 use Rattle.arriving.specs.Keeping.{started}
 use Rattle.arriving.proofs.Stands.{start_stands}
 use Rattle.beginnings.specs.Beginnings.{greatest}
@@ -16,13 +15,13 @@ unfolding greatest
 loop-i-init c =
     let k = c.args.kind in
     let h : Holds k [] (started k) = record { stands = start_stands k; kind = refl } in
-    (search rules, rw c.start-state.ensures h, refl)
+    (rw c.start-state.ensures h, refl)
 
 pub loop-i-preserved : goal.loop-i-preserved
 loop-i-preserved c =
     let s = c.args.s.now in
     let k = c.start-state.result.kind in
-    let h = holds_byte k s c.loop-i.i c.loop-i.state (omega (arith, c.accepted-end.ensures)) (omega (arith, c.accepted-end.ensures)) c.loop-i.invariant.1 in
-    let holds : Holds k (take (c.loop-i.i + 1) s) c.step.result.state = rw c.step.ensures h in
-    let count = c.count.ensures ∙ counted k (take (c.loop-i.i + 1) s) _ holds _ c.answer-answer.ensures in
-    (omega arith, holds, omega (arith, c.greater-most.ensures, count, c.loop-i.invariant.2, greatest_more k s c.loop-i.i))
+    let h = holds_byte k s c.loop-i.i c.loop-i.state (omega (arith, c.min-i-end.ensures)) (omega (arith, c.min-i-end.ensures)) c.loop-i.invariant.0 in
+    let holds : Holds k (take (c.loop-i.i + 1) s) c.step.new.state = rw c.step.ensures.state h in
+    let count = c.count.ensures ∙ counted k (take (c.loop-i.i + 1) s) _ holds _ c.answer.ensures in
+    (holds, omega (arith, c.max-most.ensures, count, c.loop-i.invariant.1, greatest_more k s c.loop-i.i))

@@ -1,5 +1,4 @@
 -- The loop's state stands for the bytes up to its place.
-use Prim.Native.Nat.{◌-◌, ◌≤◌}
 use mathlib.Core.Path.{◌≡◌}
 use lib.ListN.{take}
 use Rattle.beginnings.specs.Beginnings.{greatest}
@@ -7,7 +6,4 @@ use Rattle.beginnings.proofs.Counts.{Holds}
 use Rattle.beginnings.proofs.byte_by_byte.Given as goal
 
 abbrev pub invariant-loop-i : goal.invariant-loop-i
-invariant-loop-i l = (l.i ≤ l.end) × Holds l.initial.state.kind (take l.i l.s) l.state × (l.most ≡ greatest l.initial.state.kind l.s l.i)
-
-abbrev pub decreases-loop-i : goal.decreases-loop-i
-decreases-loop-i l = l.end - l.i
+invariant-loop-i l = Holds l.initial.state.kind (take l.i l.s) l.state × (l.most ≡ greatest l.initial.state.kind l.s l.i)

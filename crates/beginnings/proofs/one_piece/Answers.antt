@@ -11,4 +11,4 @@ returns c =
     let a = c.args in
     let h : Holds a.kind [] (started a.kind) = record { stands = start_stands a.kind; kind = refl } in
     let all = holds_step a.kind [] a.s.now (started a.kind) h in
-    c.count.ensures ∙ counted a.kind _ _ (rw (c.step.ensures, c.start.ensures) all) _ c.answer-answer.ensures
+    c.count.ensures ∙ counted a.kind _ _ (rw (c.step.ensures.state, c.start-state.ensures) all) _ c.answer.ensures

@@ -1,13 +1,8 @@
 -- By the month, the day, and the days between the month's first and the next one's.
 use native.Mathlib.Omega.{arith}
 use mir.Facts.{to_z-of_z}
-use Rattle.calendar.proofs.Dates.{in_order, late, calendar}
+use Rattle.calendar.proofs.Dates.{late, calendar}
 use Rattle.calendar.proofs.calendar_day.Goals as goal
-
-pub overflow_sub-to : goal.overflow_sub-to
-overflow_sub-to c =
-    let y = rw (to_z-of_z c.ranges.year) at c.year_of-y.ensures in
-    in_order y c.args.month 0 c.before_month-from.result c.before_month-to.result c.before_month-from.ensures c.before_month-to.ensures
 
 pub returns-then-to-from : goal.returns-then-to-from
 returns-then-to-from c =

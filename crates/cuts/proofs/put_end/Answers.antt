@@ -1,7 +1,7 @@
 -- The whole reader's number and count, and the record of the last answer.
 use mathlib.Core.List.{[], ◌∷◌, append-nil}
 use mathlib.Core.Path.{refl}
-use Rattle.kinds.specs.Kinds.{told}
+use Rattle.parser.specs.Told.{told}
 use Rattle.text.proofs.Laws.{then_puts}
 use Rattle.words.specs.declared.word.Word.TheVariants.{Number}
 use Rattle.words.specs.Words.{word_text, text_of}

@@ -1,49 +1,28 @@
 -- The month, then the day.
-use mathlib.Core.Path.{◌≡◌}
-use mir.Syntax.{w32}
-use mir.Val.{to_z, of_z}
 use mir.Facts.{to_z-of_z}
-use mathlib.Core.Bool.{true, false}
-use Rattle.parser.specs.Reading.{map}
 use Rattle.types.specs.declared.Date.TheVariants.{YMD}
+use Rattle.parser.specs.Reading.{map}
 use Rattle.parser.specs.Fields.{month, day}
 use Rattle.date.specs.Rules.{md_numeric}
-use Rattle.parser.proofs.Says.{says_map, says_seq_got, says_seq_no}
+use Rattle.parser.proofs.Passed.{passed_got, says_seq_missed}
+use Rattle.date.proofs.Missed.{says_both, says_both_missed}
 use Rattle.date.proofs.date_ymd_numeric.Goals as goal
 
-pub returns-in-Got-day_found : goal.returns-in-Got-day_found
+pub returns-in_err-month : goal.returns-in_err-month
 unfolding md_numeric
-returns-in-Got-day_found c =
+returns-in_err-month c =
     let a = c.args in
-    let same : to_z w32 (of_z w32 a.year) ≡ a.year = to_z-of_z c.ranges.year in
-    let first = rw c.in-Got.is at c.date_month-month_found.ensures in
-    let second = rw c.in-Got-day_found.is at c.date_day-day_found.ensures in
-    rw same (says_seq_got month a.s.now a.at (λ x. map (λ d. YMD a.year x d) day) _ _ false _ _ first (says_map day a.s.now _ (λ d. YMD a.year _ d) _ _ second))
+    passed_got _ _ c.from_residual.ensures.1 (says_seq_missed month a.s.now a.at (λ x. map (λ d. YMD a.year x d) day) _ c.in_err-month.ensures)
 
-pub returns-in-Wrong-day_found : goal.returns-in-Wrong-day_found
+pub returns-in_err-day : goal.returns-in_err-day
 unfolding md_numeric
-returns-in-Wrong-day_found c =
+returns-in_err-day c =
     let a = c.args in
-    let first = rw c.in-Got.is at c.date_month-month_found.ensures in
-    let second = rw c.in-Wrong-day_found.is at c.date_day-day_found.ensures in
-    says_seq_got month a.s.now a.at (λ x. map (λ d. YMD a.year x d) day) _ _ false _ _ first (says_map day a.s.now _ (λ d. YMD a.year _ d) _ false second)
+    passed_got _ _ c.from_residual-in_err-day.ensures.1 (says_both_missed month day (λ x d. YMD a.year x d) a.s.now a.at _ _ c.in_ok-month.ensures _ c.in_err-day.ensures)
 
-pub returns-in-Cut-day_found : goal.returns-in-Cut-day_found
+pub returns : goal.returns
 unfolding md_numeric
-returns-in-Cut-day_found c =
+returns c =
     let a = c.args in
-    let first = rw c.in-Got.is at c.date_month-month_found.ensures in
-    let second = rw c.in-Cut-day_found.is at c.date_day-day_found.ensures in
-    says_seq_got month a.s.now a.at (λ x. map (λ d. YMD a.year x d) day) _ _ false _ _ first (says_map day a.s.now _ (λ d. YMD a.year _ d) _ true second)
-
-pub returns-in-Wrong : goal.returns-in-Wrong
-unfolding md_numeric
-returns-in-Wrong c =
-    let a = c.args in
-    says_seq_no month a.s.now a.at (λ x. map (λ d. YMD a.year x d) day) false (rw c.in-Wrong.is at c.date_month-month_found.ensures)
-
-pub returns-in-Cut : goal.returns-in-Cut
-unfolding md_numeric
-returns-in-Cut c =
-    let a = c.args in
-    says_seq_no month a.s.now a.at (λ x. map (λ d. YMD a.year x d) day) true (rw c.in-Cut.is at c.date_month-month_found.ensures)
+    let same = to_z-of_z c.ranges.year in
+    rw same (says_both month day (λ x d. YMD a.year x d) a.s.now a.at _ _ c.in_ok-month.ensures _ _ c.in_ok-day.ensures)

@@ -1,18 +1,12 @@
 -- A dash and a day, or none.
-use Rattle.date.proofs.Dashed.{of_day}
+use Rattle.parser.specs.Reading.{opt}
+use Rattle.parser.proofs.Says.{says_opt}
+use Rattle.date.specs.Answer.{dashed_day, dashed_day_of_month}
+use Rattle.date.proofs.Dashed.{says_first}
 use Rattle.date.proofs.day_of_month.Goals as goal
 
-pub returns-in-Got : goal.returns-in-Got
-returns-in-Got c =
+pub returns : goal.returns
+unfolding dashed_day_of_month
+returns c =
     let a = c.args in
-    of_day a.s.now a.at _ _ (rw c.in-Got.is at c.dashed_day-day_found.ensures)
-
-pub returns-in-Wrong : goal.returns-in-Wrong
-returns-in-Wrong c =
-    let a = c.args in
-    of_day a.s.now a.at _ _ (rw c.in-Wrong.is at c.dashed_day-day_found.ensures)
-
-pub returns-in-Cut : goal.returns-in-Cut
-returns-in-Cut c =
-    let a = c.args in
-    of_day a.s.now a.at _ _ (rw c.in-Cut.is at c.dashed_day-day_found.ensures)
+    says_first (opt dashed_day) a.s.now a.at _ _ _ _ (says_opt dashed_day a.s.now a.at _ _ c.dashed_day-day.ensures) c.optional.ensures.found c.optional.ensures.more

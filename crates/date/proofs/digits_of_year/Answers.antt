@@ -1,6 +1,5 @@
--- By what the field found; its number is small enough to be negated.
+-- The field's number is small enough to be negated.
 use native.Mathlib.Omega.{arith}
-use mathlib.Core.Bool.{true, false}
 use mathlib.Core.Path.{◌≡◌, sym}
 use mir.Syntax.{w32}
 use mir.Val.{to_z, of_z}
@@ -9,30 +8,22 @@ use Rattle.types.specs.Sums.{with_sign}
 use Rattle.parser.specs.Digits.{field}
 use Rattle.parser.proofs.Leaves.{field_within}
 use Rattle.parser.proofs.Says.{says_map}
+use Rattle.parser.proofs.Passed.{passed_exact, says_map_missed}
 use borrow.Author.Rules.{rules}
 use Rattle.date.proofs.digits_of_year.Goals as goal
 
-pub overflow_cast-value : goal.overflow_cast-value
-overflow_cast-value c =
+pub returns-in_err-number : goal.returns-in_err-number
+returns-in_err-number c =
     let a = c.args in
-    let found = rw c.in-Got.is at c.take_digits_in_range-number.ensures in
-    omega (arith, field_within 4 100 9999 a.s.now a.at _ _ (sym found.found))
+    passed_exact _ _ c.from_residual.ensures.1 (says_map_missed (field 4 100 9999) a.s.now a.at (with_sign a.minus) _ c.in_err-number.ensures)
 
-pub returns-in-Got : goal.returns-in-Got
-returns-in-Got c =
+pub overflow_cast-number : goal.overflow_cast-number
+overflow_cast-number c =
     let a = c.args in
-    let found = rw c.in-Got.is at c.take_digits_in_range-number.ensures in
+    omega (arith, field_within 4 100 9999 a.s.now a.at _ _ (sym c.in_ok-number.ensures.found))
+
+pub returns : goal.returns
+returns c =
+    let a = c.args in
     let same : to_z w32 (of_z w32 c.with_sign.result) ≡ c.with_sign.result = to_z-of_z {w = w32} (search rules) in
-    rw (same, c.with_sign.ensures) (says_map (field 4 100 9999) a.s.now a.at (with_sign a.minus) _ false found)
-
-pub returns-in-Wrong : goal.returns-in-Wrong
-returns-in-Wrong c =
-    let a = c.args in
-    let found = rw c.in-Wrong.is at c.take_digits_in_range-number.ensures in
-    says_map (field 4 100 9999) a.s.now a.at (with_sign a.minus) _ false found
-
-pub returns-in-Cut : goal.returns-in-Cut
-returns-in-Cut c =
-    let a = c.args in
-    let found = rw c.in-Cut.is at c.take_digits_in_range-number.ensures in
-    says_map (field 4 100 9999) a.s.now a.at (with_sign a.minus) _ true found
+    rw (same, c.with_sign.ensures) (says_map (field 4 100 9999) a.s.now a.at (with_sign a.minus) _ _ c.in_ok-number.ensures)

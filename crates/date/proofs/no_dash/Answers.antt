@@ -1,28 +1,35 @@
--- The first alternative, or the others: after one that was cut short they are open in any case.
-use mathlib.Core.Path.{◌≡◌}
-use mir.Syntax.{w32}
-use mir.Val.{to_z, of_z}
-use mir.Facts.{to_z-of_z}
+-- The first alternative, or the other: after one that was cut short it is open in any case.
 use mathlib.Core.Bool.{true, false}
+use mir.Facts.{to_z-of_z}
+use Rattle.std.specs.declared.result.Result.TheVariants.{Err}
 use Rattle.date.specs.Rules.{md_numeric, ordinal}
-use Rattle.parser.proofs.Says.{says_alt_got, says_alt_no}
+use Rattle.parser.proofs.Says.{says_alt_no}
+use Rattle.date.proofs.Dashed.{ordinal_unstopped}
+use Rattle.date.proofs.Missed.{says_alt_kept, says_opened}
 use Rattle.date.proofs.no_dash.Goals as goal
 
-pub returns-in-Got : goal.returns-in-Got
-returns-in-Got c =
+pub returns-in-Err-Wrong : goal.returns-in-Err-Wrong
+returns-in-Err-Wrong c =
     let a = c.args in
-    let same : to_z w32 (of_z w32 a.year) ≡ a.year = to_z-of_z c.ranges.year in
-    says_alt_got (md_numeric a.year) a.s.now a.at (ordinal a.year) _ _ _ (rw (same, c.in-Got.is) at c.date_ymd_numeric-found.ensures)
+    let same = to_z-of_z c.ranges.year in
+    says_alt_no (md_numeric a.year) a.s.now a.at (ordinal a.year) false _ _ (rw (same, c.in-Err-Wrong.field-0-is) at c.in-Err-Wrong.ensures) (rw same at c.date_yddd.ensures)
 
-pub returns-in-Wrong : goal.returns-in-Wrong
-returns-in-Wrong c =
+pub returns-in-Err-Cut : goal.returns-in-Err-Cut
+returns-in-Err-Cut c =
     let a = c.args in
-    let same : to_z w32 (of_z w32 a.year) ≡ a.year = to_z-of_z c.ranges.year in
-    says_alt_no (md_numeric a.year) a.s.now a.at (ordinal a.year) false _ _ (rw (same, c.in-Wrong.is) at c.date_ymd_numeric-found.ensures) (rw same at c.date_yddd.ensures)
+    let same = to_z-of_z c.ranges.year in
+    let later = rw same at c.date_yddd-in-Err-Cut.ensures in
+    says_opened _ _ _ _ _ _ _ _ (ordinal_unstopped a.year) later c.opened.ensures.found c.opened.ensures.more
+    (says_alt_no (md_numeric a.year) a.s.now a.at (ordinal a.year) true _ _ (rw (same, c.in-Err-Cut.field-0-is) at c.in-Err-Cut.ensures) later)
 
-pub returns-in-Cut : goal.returns-in-Cut
-returns-in-Cut c =
+pub returns-in_default : goal.returns-in_default
+returns-in_default c =
     let a = c.args in
-    let same : to_z w32 (of_z w32 a.year) ≡ a.year = to_z-of_z c.ranges.year in
-    rw (c.opened.ensures.0, c.opened.ensures.1)
-    (says_alt_no (md_numeric a.year) a.s.now a.at (ordinal a.year) true _ _ (rw (same, c.in-Cut.is) at c.date_ymd_numeric-found.ensures) (rw same at c.date_yddd-in-Cut.ensures))
+    let same = to_z-of_z c.ranges.year in
+    says_alt_kept (md_numeric a.year) (ordinal a.year) a.s.now a.at (Err _) (λ e. cc) (λ e. cc) (rw same at c.in_default.ensures)
+
+pub returns-in_default-2 : goal.returns-in_default-2
+returns-in_default-2 c =
+    let a = c.args in
+    let same = to_z-of_z c.ranges.year in
+    says_alt_kept (md_numeric a.year) (ordinal a.year) a.s.now a.at _ (λ e. cc) (λ e. cc) (rw same at c.date_ymd_numeric.ensures)

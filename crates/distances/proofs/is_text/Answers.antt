@@ -1,16 +1,6 @@
--- By the test on its length, and by its first space.
-use mathlib.Core.Path.{sym, ◌∙◌}
-use borrow.Author.Rules.{rules}
-use Rattle.distances.specs.Distances.{IsText}
-use Rattle.distances.proofs.Parts.{unparted, not_free}
+-- By the test on its length, and by whether it has a space.
+use Rattle.distances.proofs.Parts.{text_told}
 use Rattle.distances.proofs.is_text.Goals as goal
 
-pub returns-in-At : goal.returns-in-At
-returns-in-At c =
-    let place = sym c.place_of.ensures ∙ c.in-At.is in
-    λ (text : IsText c.args.s.now). not_free 32 _ 0 _ place text.free
-
-pub returns-in-Open : goal.returns-in-Open
-returns-in-Open c =
-    let s = c.args.s.now in
-    record { short = search rules; free = unparted 32 s 0 (sym c.place_of.ensures ∙ c.in-Open.is) }
+pub returns-then-s-le-LONGEST : goal.returns-then-s-le-LONGEST
+returns-then-s-le-LONGEST c = rw c.contains.ensures.value (text_told c.args.s.now c.if-s-le-LONGEST.true)

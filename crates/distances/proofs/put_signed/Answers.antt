@@ -1,22 +1,22 @@
--- The word of a number below 0 is its digits behind a minus.
-use Prim.Native.Nat.{ℕ}
+-- Below 0 the digits stand behind a minus.
+use mathlib.Core.Bool.{true}
 use mathlib.Core.List.{◌∷◌}
-use mathlib.Core.Path.{◌≡◌, sym, ap, ◌∙◌}
+use mathlib.Core.Path.{◌≡◌, refl, sym}
 use native.Mathlib.Omega.{arith}
-use lib.IntN.{ℤ, pos, negsuc}
+use borrow.Author.Tests.{ltb-true}
+use lib.IntN.{ℤ, pos, negsuc, nat_abs}
+use lib.Signed.{lt_z}
+use mir.Facts.{to_z-of_z}
 use Rattle.text.specs.Text.{decimal}
 use Rattle.text.proofs.Laws.{then_puts}
-use Rattle.text.proofs.Sizes.{read}
-use Rattle.words.specs.declared.word.Word.TheVariants as word
-use Rattle.words.specs.Words.{signed_word}
 use Rattle.distances.specs.Distances.{signed}
 use Rattle.distances.proofs.put_signed.Goals as goal
 
-negative : (z : ℤ) (k : ℕ) → word.Minus k ≡ signed_word z → 45 ∷ decimal k ≡ signed z
-negative (pos n) k e = let z : ◌≡◌ {A = ℕ} 0 1 = cc in absurd (omega arith)
-negative (negsuc n) k e = ap (λ (m : ℕ). 45 ∷ decimal m) (cc)
+below : (z : ℤ) → lt_z z (pos 0) ≡ true → 45 ∷ decimal (nat_abs z) ≡ signed z
+below (pos n) e = absurd (omega (arith, ltb-true n 0 e))
+below (negsuc n) e = refl
 
-pub returns-in-Minus : goal.returns-in-Minus
-returns-in-Minus c =
-    let told = sym c.in-Minus.is ∙ c.signed.ensures ∙ ap signed_word (read c.ranges.n) in
-    rw (sym (negative c.args.n _ told)) (then_puts c.put_byte-next.ensures c.put_decimal-in-Minus.ensures)
+pub returns-then-n-lt0 : goal.returns-then-n-lt0
+returns-then-n-lt0 c =
+    let is = to_z-of_z c.ranges.n in
+    rw (sym (below c.args.n (rw is at c.if-n-lt0.true)), ← (rw is at c.unsigned_abs.ensures.value)) (then_puts c.put_byte-next.ensures c.put_decimal.ensures)

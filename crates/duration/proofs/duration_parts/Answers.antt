@@ -4,5 +4,5 @@ use Rattle.duration.proofs.duration_parts.Goals as goal
 
 pub with_time-requires : goal.with_time-requires
 with_time-requires c =
-    let d = c.short_part-d.ensures in
-    (d.behind, date_made _ _ _ _ _ _ _ c.short_part-y.ensures c.short_part-mo.ensures c.short_part-w.ensures d)
+    let d = c.short_part-days.ensures in
+    (d.behind, date_made _ _ _ _ _ _ _ c.short_part-years.ensures c.short_part-months.ensures c.short_part-weeks.ensures d)

@@ -5,5 +5,5 @@ use Rattle.duration.proofs.long_parts.Goals as goal
 pub returns : goal.returns
 returns c =
     let s = c.args.s.now in
-    let date = date_tried s _ _ _ _ _ _ c.duration_item.ensures c.duration_part-y.ensures c.duration_part-mo.ensures c.duration_part-w.ensures c.duration_part-d.ensures in
-    rw c.all_parts.ensures.more (parts_made s _ _ _ _ _ _ _ _ date c.duration_time.ensures c.all_parts.ensures.found)
+    let date = date_tried s _ _ _ _ _ _ c.duration_item.ensures c.duration_part-years.ensures c.duration_part-months.ensures c.duration_part-weeks.ensures c.duration_part-days.ensures in
+    rw c.all_parts.ensures.more (parts_made s _ _ _ _ _ date c.duration_time.ensures c.all_parts.ensures.found)

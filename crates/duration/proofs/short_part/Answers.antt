@@ -6,21 +6,24 @@ use Rattle.duration.proofs.short_part.Goals as goal
 
 pub returns-then-digit-le9 : goal.returns-then-digit-le9
 returns-then-digit-le9 c =
-    let o = look_one c.args.s.now c.args.at _ _ c.requires.1 c.requires.0 c.if-look-letter.true in
-    let v = c.wrapping_sub_u64-digit.ensures in
-    short_one c.args.s.now c.args.at _ _ _ o (omega (arith, c.requires.1)) (digit_at c.args.s.now c.args.at (omega (arith, o.room)) (omega (arith, v)) (omega (arith, v))) _ (omega (arith, v)) refl c.look_at.ensures
-
-pub returns-then-look-letter : goal.returns-then-look-letter
-returns-then-look-letter c =
-    let o = look_one c.args.s.now c.args.at _ _ c.requires.1 c.requires.0 c.if-look-letter.true in
-    let v = c.wrapping_sub_u64-digit.ensures in
-    short_absent c.args.s.now c.args.at _ _ _ c.requires.0 (λ _. other_at c.args.s.now c.args.at (omega (arith, o.room)) (λ a b. omega (arith, v))) (λ e. omega (arith, c.requires.1)) c.not_there.ensures
+    let a = c.args in
+    let o = look_one a.s.now a.at a.look a.letter (omega arith) c.requires (omega arith) in
+    let byte = c.type_inv.s a.at in
+    short_one a.s.now a.at _ _ _ o (omega arith) (digit_at a.s.now a.at (omega (arith, o.room)) (omega (arith, byte)) (omega (arith, byte))) _ (omega (arith, byte)) refl c.look_at.ensures
 
 pub returns-then-look-letter-2 : goal.returns-then-look-letter-2
 returns-then-look-letter-2 c =
-    let t = look_two c.args.s.now c.args.at _ _ c.requires.1 c.requires.0 c.if-look-letter-2.true in
-    short_two c.args.s.now c.args.at _ _ _ t (omega (arith, c.requires.1)) _ (omega (arith, (digit_bytes _ _ t.first).0, (digit_bytes _ _ t.second).0)) refl c.look_at-then-look-letter-2.ensures
+    let a = c.args in
+    let t = look_two a.s.now a.at a.look a.letter (omega arith) c.requires (omega arith) in
+    short_two a.s.now a.at _ _ _ t (omega arith) _ (omega (arith, (digit_bytes _ _ t.first).0, (digit_bytes _ _ t.second).0)) refl c.look_at-then-look-letter-2.ensures
 
-pub returns : goal.returns
-returns c =
-    short_absent c.args.s.now c.args.at _ _ _ c.requires.0 (λ e. absurd (c.if-look-letter.false e)) c.if-look-letter-2.false c.not_there-2.ensures
+pub returns-else-digit-le9 : goal.returns-else-digit-le9
+returns-else-digit-le9 c =
+    let a = c.args in
+    let o = look_one a.s.now a.at a.look a.letter (omega arith) c.requires (omega arith) in
+    let byte = c.type_inv.s a.at in
+    short_absent a.s.now a.at _ _ _ c.requires (λ _. other_at a.s.now a.at (omega (arith, o.room)) (λ p q. omega (arith, byte))) (λ e. omega arith) (refl, refl)
+
+pub returns-else-look-letter-2 : goal.returns-else-look-letter-2
+returns-else-look-letter-2 c =
+    short_absent c.args.s.now c.args.at _ _ _ c.requires (λ e. absurd (omega arith)) (λ e. omega arith) (refl, refl)

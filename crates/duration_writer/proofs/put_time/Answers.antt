@@ -1,11 +1,8 @@
--- Nothing, or the `T` and the three parts one behind the other.
-use Rattle.text.proofs.Laws.{then_puts, puts_nothing}
+-- The `T` and the three parts one behind the other.
+use Rattle.text.proofs.Laws.{then_puts}
 use Rattle.writing.specs.Spelling.{time_parts}
 use Rattle.duration_writer.proofs.Sizes.{behind_t_lem}
 use Rattle.duration_writer.proofs.put_time.Goals as goal
-
-pub returns-then-is_timeless : goal.returns-then-is_timeless
-returns-then-is_timeless c = rw (behind_t_lem c.args.d, ← c.is_timeless.ensures, c.if-is_timeless.true) (puts_nothing _ _)
 
 pub returns : goal.returns
 unfolding time_parts

@@ -1,21 +1,15 @@
--- The length first, then the bytes. A number of 64 bits is within the limit, so that some reader gives every record.
+-- A short buffer stays as it was; with room, the text is put at the front.
+use mathlib.Core.Path.{sym, ◌∙◌}
 use native.Mathlib.Omega.{arith}
 use borrow.Author.Rules.{rules}
-use Rattle.duration.specs.Rules.{duration}
-use Rattle.writing.specs.Writing.{Readable}
-use Rattle.writing.proofs.Laws.{readable, short_writes, put_writes}
-use Rattle.duration_writer.proofs.Within.{Within, within_given}
-use Rattle.duration_writer.proofs.Laws.{duration_spells}
+use Rattle.writing.proofs.Laws.{refused_writes, put_writes}
+use Rattle.duration_writer.proofs.Laws.{duration_measures}
 use Rattle.duration_writer.proofs.write_duration.Goals as goal
 
-pub returns-then-buffer-count : goal.returns-then-buffer-count
-returns-then-buffer-count c =
-    let fits : Within c.args.d = record { years = search rules; months = search rules; weeks = search rules; days = search rules; hours = search rules; minutes = search rules; seconds = search rules } in
-    let given : Readable duration c.args.d = readable duration_spells _ (within_given _ fits) in
-    short_writes given c.duration_length-count.ensures (omega (arith, c.if-buffer-count.true))
+pub returns-in_err-count : goal.returns-in_err-count
+returns-in_err-count c =
+    let measures = duration_measures c.args.d (search rules) c.duration_length.ensures in
+    grind (arith, refused_writes)
 
 pub returns : goal.returns
-returns c =
-    let fits : Within c.args.d = record { years = search rules; months = search rules; weeks = search rules; days = search rules; hours = search rules; minutes = search rules; seconds = search rules } in
-    let given : Readable duration c.args.d = readable duration_spells _ (within_given _ fits) in
-    put_writes given c.duration_length-count.ensures (omega (arith, c.if-buffer-count.false)) c.put_duration.ensures
+returns c = put_writes _ (duration_measures c.args.d (search rules) c.duration_length.ensures) (sym c.room_for.ensures ∙ c.in_ok-count.was) c.put_duration.ensures

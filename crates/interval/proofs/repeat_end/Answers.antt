@@ -1,20 +1,16 @@
 -- By what stands there.
-use mathlib.Core.Bool.{true, false}
-use Rattle.parser.specs.Reading.{no, lit}
+use mathlib.Core.Bool.{false}
+use Rattle.parser.specs.Reading.{lit}
 use Rattle.parser.proofs.Says.{says_map}
+use Rattle.parser.proofs.Passed.{passed_exact, says_map_missed}
 use Rattle.interval.proofs.repeat_end.Goals as goal
 
-pub returns-in-Got : goal.returns-in-Got
-returns-in-Got c =
+pub returns-in_err-next : goal.returns-in_err-next
+returns-in_err-next c =
     let a = c.args in
-    says_map (lit 47) a.s.now a.at (λ _. a.value) _ false (rw c.in-Got.is at c.literal-mark.ensures)
+    passed_exact _ _ c.from_residual.ensures.1 (says_map_missed (lit 47) a.s.now a.at (λ _. a.value) _ c.in_err-next.ensures)
 
-pub returns-in-Wrong : goal.returns-in-Wrong
-returns-in-Wrong c =
+pub returns : goal.returns
+returns c =
     let a = c.args in
-    says_map (lit 47) a.s.now a.at (λ _. a.value) no false (rw c.in-Wrong.is at c.literal-mark.ensures)
-
-pub returns-in-Cut : goal.returns-in-Cut
-returns-in-Cut c =
-    let a = c.args in
-    says_map (lit 47) a.s.now a.at (λ _. a.value) no true (rw c.in-Cut.is at c.literal-mark.ensures)
+    says_map (lit 47) a.s.now a.at (λ _. a.value) _ false c.in_ok-next.ensures

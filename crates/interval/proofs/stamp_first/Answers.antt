@@ -1,34 +1,31 @@
 -- A date-time, and what stands behind it.
-use mathlib.Core.Bool.{true, false}
-use Rattle.interval.proofs.First.{slash_first, other_first, end_first, stopped_first, none_first}
+use Rattle.std.proofs.Common.{rules}
+use Rattle.datetime.specs.Rules.{date_time}
+use Rattle.interval.specs.Rules.{stamp}
+use Rattle.parser.proofs.Passed.{passed_got}
+use Rattle.interval.proofs.First.{slash_first, other_first, cut_first, missed_first}
+use Rattle.interval.proofs.Telling.{says_untried}
 use Rattle.interval.proofs.stamp_first.Goals as goal
 
-pub returns-in-Got-literal : goal.returns-in-Got-literal
-returns-in-Got-literal c =
+pub returns-in_err-start : goal.returns-in_err-start
+returns-in_err-start c =
     let a = c.args in
-    slash_first a.choices a.s.now a.at _ _ _ _ _ _ (rw c.in-Got.is at c.datetime_at-found.ensures) (rw c.in-Got-literal.is at c.literal.ensures) c.after_start.ensures
+    passed_got _ _ c.from_residual.ensures.1 (missed_first a.choices a.s.now a.at _ c.in_err-start.ensures.no_form c.in_err-start.ensures.read)
 
-pub returns-in-Wrong-literal : goal.returns-in-Wrong-literal
-returns-in-Wrong-literal c =
+pub returns-in-Ok : goal.returns-in-Ok
+unfolding stamp
+returns-in-Ok c =
     let a = c.args in
-    rw (c.no_range.ensures.found, c.no_range.ensures.more, c.goes_on.ensures) (other_first a.choices a.s.now a.at _ _ _ (rw c.in-Got.is at c.datetime_at-found.ensures) (rw c.in-Wrong-literal.is at c.literal.ensures))
+    slash_first a.choices a.s.now a.at _ _ _ _ _ _ (says_untried (date_time a.choices) a.s.now a.at _ _ _ c.in_ok-start.ensures.read) c.in-Ok.ensures c.after_start.ensures
 
-pub returns-in-Cut-literal : goal.returns-in-Cut-literal
-returns-in-Cut-literal c =
+pub returns-in-Err-Wrong : goal.returns-in-Err-Wrong
+unfolding stamp
+returns-in-Err-Wrong c =
     let a = c.args in
-    end_first a.choices a.s.now a.at _ _ _ (rw c.in-Got.is at c.datetime_at-found.ensures) (rw c.in-Cut-literal.is at c.literal.ensures)
+    rw (c.no_range.ensures.found, c.no_range.ensures.more, c.goes_on.ensures) (other_first a.choices a.s.now a.at _ _ _ (says_untried (date_time a.choices) a.s.now a.at _ _ _ c.in_ok-start.ensures.read) (rw c.in-Err-Wrong.field-0-is at c.in-Err-Wrong.ensures))
 
-pub returns-in-Stopped : goal.returns-in-Stopped
-returns-in-Stopped c =
+pub returns-in-Err : goal.returns-in-Err
+unfolding stamp
+returns-in-Err c =
     let a = c.args in
-    stopped_first a.choices a.s.now a.at (rw c.in-Stopped.is at c.datetime_at-found.ensures)
-
-pub returns-in-Wrong : goal.returns-in-Wrong
-returns-in-Wrong c =
-    let a = c.args in
-    none_first a.choices a.s.now a.at false (rw c.in-Wrong.is at c.datetime_at-found.ensures)
-
-pub returns-in-Cut : goal.returns-in-Cut
-returns-in-Cut c =
-    let a = c.args in
-    none_first a.choices a.s.now a.at true (rw c.in-Cut.is at c.datetime_at-found.ensures)
+    cut_first a.choices a.s.now a.at _ _ _ _ (search rules) (says_untried (date_time a.choices) a.s.now a.at _ _ _ c.in_ok-start.ensures.read) c.in-Err.ensures

@@ -1,36 +1,12 @@
--- Case by case, the sides are those of the range.
-use Rattle.writing.specs.Spelling.{range_spelling}
-use Rattle.interval_writer.specs.Ranges.{range_given}
+-- The first side, `/` and the second are put one behind the other.
+use native.Mathlib.Omega.{arith}
+use Rattle.text.proofs.Laws.{then_puts, puts_clips}
 use Rattle.interval_writer.proofs.put_range.Goals as goal
 
-pub put_sides-requires : goal.put_sides-requires
-unfolding range_given range_spelling
-put_sides-requires c = rw c.in-Closed.is at c.requires
-
-pub put_sides-requires-in-ClosedEnd : goal.put_sides-requires-in-ClosedEnd
-unfolding range_given range_spelling
-put_sides-requires-in-ClosedEnd c = rw c.in-ClosedEnd.is at c.requires
-
-pub put_sides-requires-in-ClosedStart : goal.put_sides-requires-in-ClosedStart
-unfolding range_given range_spelling
-put_sides-requires-in-ClosedStart c = rw c.in-ClosedStart.is at c.requires
-
 pub put_side-requires : goal.put_side-requires
-unfolding range_given range_spelling
-put_side-requires c = rw c.in-Open.is at c.requires
+put_side-requires c =
+    let front = puts_clips (then_puts c.put_side-next.ensures c.put_byte-next.ensures) c.requires in
+    omega (arith, front.place, front.size)
 
-pub returns-in-Closed : goal.returns-in-Closed
-unfolding range_spelling
-returns-in-Closed c = rw c.in-Closed.is c.put_sides.ensures
-
-pub returns-in-ClosedEnd : goal.returns-in-ClosedEnd
-unfolding range_spelling
-returns-in-ClosedEnd c = rw c.in-ClosedEnd.is c.put_sides-in-ClosedEnd.ensures
-
-pub returns-in-ClosedStart : goal.returns-in-ClosedStart
-unfolding range_spelling
-returns-in-ClosedStart c = rw c.in-ClosedStart.is c.put_sides-in-ClosedStart.ensures
-
-pub returns-in-Open : goal.returns-in-Open
-unfolding range_spelling
-returns-in-Open c = rw c.in-Open.is c.put_side.ensures
+pub returns-in-Some : goal.returns-in-Some
+returns-in-Some c = rw (← c.sides_of-first.ensures.spelled, c.in-Some.is) (then_puts c.put_side-next.ensures (then_puts c.put_byte-next.ensures c.put_side.ensures))

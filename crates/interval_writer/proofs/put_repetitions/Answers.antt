@@ -1,15 +1,7 @@
--- Nothing, `R/`, or the letter, the digits and the `/` one behind the other.
-use Rattle.text.proofs.Laws.{then_puts, puts_nothing}
+-- The letter, the digits and the `/` one behind the other.
+use Rattle.text.proofs.Laws.{then_puts}
 use Rattle.writing.specs.Spelling.{repetitions_spelling}
 use Rattle.interval_writer.proofs.put_repetitions.Goals as goal
-
-pub returns-in-Once : goal.returns-in-Once
-unfolding repetitions_spelling
-returns-in-Once c = rw c.in-Once.is (puts_nothing _ _)
-
-pub returns-in-Unlimited : goal.returns-in-Unlimited
-unfolding repetitions_spelling
-returns-in-Unlimited c = rw c.in-Unlimited.is c.put.ensures
 
 pub returns-in-Times : goal.returns-in-Times
 unfolding repetitions_spelling

@@ -1,15 +1,8 @@
--- What `interval_at` says at the beginning is what the reader promises.
+-- What the code says of the rule is the promise, by the laws of the kind.
 use Rattle.interval.proofs.Laws.{interval_begins}
 use Rattle.intervals.proofs.interval.Goals as goal
 
-pub returns-in-Got : goal.returns-in-Got
-returns-in-Got c = rw c.verdict_on.ensures (interval_begins c.args.choices c.args.s.now _ _ (rw c.in-Got.is at c.interval_at-found.ensures))
-
-pub returns-in-TooBig : goal.returns-in-TooBig
-returns-in-TooBig c = rw (c.refused.ensures.0, c.refused.ensures.1) (interval_begins c.args.choices c.args.s.now _ _ (rw c.in-TooBig.is at c.interval_at-found.ensures))
-
-pub returns-in-Wrong : goal.returns-in-Wrong
-returns-in-Wrong c = rw (c.refused-in-Wrong.ensures.0, c.refused-in-Wrong.ensures.1) (interval_begins c.args.choices c.args.s.now _ _ (rw c.in-Wrong.is at c.interval_at-found.ensures))
-
-pub returns-in-Cut : goal.returns-in-Cut
-returns-in-Cut c = rw (c.refused-in-Cut.ensures.0, c.refused-in-Cut.ensures.1) (interval_begins c.args.choices c.args.s.now _ _ (rw c.in-Cut.is at c.interval_at-found.ensures))
+pub returns : goal.returns
+returns c =
+    let a = c.args in
+    rw (c.begun.ensures.answer, c.begun.ensures.verdict) (interval_begins a.choices a.s.now _ _ c.interval_at.ensures)

@@ -4,4 +4,4 @@ use Rattle.logs.proofs.step.Goals as goal
 
 pub returns : goal.returns
 returns c =
-    steps c.args.week _ _ c.lesser-taken.ensures c.lesser-n.ensures c.lesser.ensures c.all_lines.ensures
+    steps c.args.week _ _ c.min-taken.ensures c.min-n.ensures c.min.ensures c.all_lines.ensures

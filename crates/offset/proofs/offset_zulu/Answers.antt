@@ -3,22 +3,17 @@ use Rattle.types.specs.Sums.{zero_offset}
 use Rattle.parser.specs.Reading.{lit}
 use Rattle.parser.proofs.Says.{says_map}
 use Rattle.offset.specs.Rules.{offset_zulu}
+use Rattle.parser.proofs.Passed.{passed_got, says_map_missed}
 use Rattle.offset.proofs.offset_zulu.Goals as goal
 
-pub returns-in-Got : goal.returns-in-Got
+pub returns-in_err-next : goal.returns-in_err-next
 unfolding offset_zulu
-returns-in-Got c =
+returns-in_err-next c =
     let a = c.args in
-    says_map (lit 90) a.s.now a.at (λ _. zero_offset) _ _ (rw c.in-Got.is at c.literal-mark.ensures)
+    passed_got _ _ c.from_residual.ensures.1 (says_map_missed (lit 90) a.s.now a.at (λ _. zero_offset) _ c.in_err-next.ensures)
 
-pub returns-in-Wrong : goal.returns-in-Wrong
+pub returns : goal.returns
 unfolding offset_zulu
-returns-in-Wrong c =
+returns c =
     let a = c.args in
-    says_map (lit 90) a.s.now a.at (λ _. zero_offset) _ _ (rw c.in-Wrong.is at c.literal-mark.ensures)
-
-pub returns-in-Cut : goal.returns-in-Cut
-unfolding offset_zulu
-returns-in-Cut c =
-    let a = c.args in
-    says_map (lit 90) a.s.now a.at (λ _. zero_offset) _ _ (rw c.in-Cut.is at c.literal-mark.ensures)
+    says_map (lit 90) a.s.now a.at (λ _. zero_offset) _ _ c.in_ok-next.ensures

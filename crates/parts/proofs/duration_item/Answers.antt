@@ -1,44 +1,24 @@
 -- The item is made of what the run is said to be, and the byte behind a run that ends inside the input is there.
-use mathlib.Core.Path.{sym, ◌∙◌}
-use native.Mathlib.Omega.{arith}
-use Rattle.parts.proofs.Items.{item_is, run_inside}
+use Rattle.std.proofs.Common.{sym, ◌∙◌, arith}
+use Rattle.std.proofs.lemmas.Result.{err_from_is_err_and}
+use Rattle.parts.proofs.Items.{missed_item, got_item, run_inside}
 use Rattle.parts.proofs.duration_item.Goals as goal
 
-pub returns-then-more : goal.returns-then-more
-returns-then-more c =
-    let a = c.args in
-    let h = rw c.in-Got.is at c.take_digits-found.ensures in
-    rw (item_is a.s.now a.at _ _ h, c.if-more.true)
+pub returns-in_err-run : goal.returns-in_err-run
+returns-in_err-run c =
+    let p = err_from_is_err_and c.from_residual.result c.from_residual.ensures.1 in
+    rw (p.1, p.2) (sym (missed_item _ _ _ c.in_err-run.ensures))
 
-pub bounds-s-next : goal.bounds-s-next
-bounds-s-next c =
-    let a = c.args in
-    let h = rw c.in-Got.is at c.take_digits-found.ensures in
-    run_inside a.s.now a.at _ _ (sym h.found) (sym h.more ∙ c.if-more.false)
+pub returns-then-run : goal.returns-then-run
+returns-then-run c = rw (got_item _ _ _ _ _ c.in_ok-run.ensures, c.if-run.true)
+
+pub bounds-s-run : goal.bounds-s-run
+bounds-s-run c = let h = c.in_ok-run.ensures in run_inside _ _ _ _ (sym h.found) (sym h.more ∙ c.if-run.false)
 
 pub overflow_add-result : goal.overflow_add-result
 overflow_add-result c =
-    let a = c.args in
-    let h = rw c.in-Got.is at c.take_digits-found.ensures in
-    omega (arith, run_inside a.s.now a.at _ _ (sym h.found) (sym h.more ∙ c.if-more.false))
+    let h = c.in_ok-run.ensures in
+    omega (arith, run_inside _ _ _ _ (sym h.found) (sym h.more ∙ c.if-run.false))
 
-pub returns-else-more : goal.returns-else-more
-returns-else-more c =
-    let a = c.args in
-    let h = rw c.in-Got.is at c.take_digits-found.ensures in
-    rw (item_is a.s.now a.at _ _ h, c.if-more.false)
-
-pub returns-in-TooBig : goal.returns-in-TooBig
-returns-in-TooBig c =
-    let a = c.args in
-    rw (item_is a.s.now a.at _ _ (rw c.in-TooBig.is at c.take_digits-found.ensures))
-
-pub returns-in-Wrong : goal.returns-in-Wrong
-returns-in-Wrong c =
-    let a = c.args in
-    rw (item_is a.s.now a.at _ _ (rw c.in-Wrong.is at c.take_digits-found.ensures))
-
-pub returns-in-Cut : goal.returns-in-Cut
-returns-in-Cut c =
-    let a = c.args in
-    rw (item_is a.s.now a.at _ _ (rw c.in-Cut.is at c.take_digits-found.ensures))
+pub returns : goal.returns
+returns c = rw (got_item _ _ _ _ _ c.in_ok-run.ensures, c.if-run.false)

@@ -1,29 +1,16 @@
--- The loop goes along the run, and stops where it ends.
-use Rattle.std.proofs.Common.{length, ap, arith}
-use Rattle.parser.proofs.Fields.{digit_at, below_digits, above_digits}
-use Rattle.parser.proofs.Runs.{run_step, run_other, run_end}
+-- The chain takes the run's digits.
+use Rattle.std.proofs.Common.{◌≡◌, length, drop, arith, rules}
+use Rattle.std.specs.Char.{is_ascii_digit}
+use Rattle.std.specs.List.{take_while}
+use Rattle.std.proofs.lemmas.Iterator.{YieldsList-from_slice}
+use Rattle.std.proofs.lemmas.Iterator.Search.{YieldsList-from_take_while}
+use Rattle.std.proofs.lemmas.Iterator.Consumers.{count_from_yields_List}
+use Rattle.std.proofs.lemmas.List.Folds.{length-prefix_len}
+use Rattle.runs.proofs.Prefix.{prefix_digits}
 use Rattle.runs.proofs.digits_end.Goals as goal
-
-pub returns-then-b-lt48 : goal.returns-then-b-lt48
-returns-then-b-lt48 c =
-    let s = c.args.s.now in
-    let l = c.loop-next in
-    omega (arith, l.invariant, ap length (run_other s l.next (below_digits s l.next (omega arith) (omega arith))))
-
-pub returns-then-b-gt57 : goal.returns-then-b-gt57
-returns-then-b-gt57 c =
-    let s = c.args.s.now in
-    let l = c.loop-next in
-    omega (arith, l.invariant, ap length (run_other s l.next (above_digits s l.next (omega arith) (omega arith))))
-
-pub loop-next-preserved : goal.loop-next-preserved
-loop-next-preserved c =
-    let s = c.args.s.now in
-    let l = c.loop-next in
-    omega (arith, l.invariant, ap length (run_step s l.next (digit_at s l.next (omega arith) (omega arith) (omega arith))))
 
 pub returns : goal.returns
 returns c =
-    let s = c.args.s.now in
-    let l = c.loop-next in
-    omega (arith, l.invariant, ap length (run_end s l.next (omega arith)))
+    let left = drop c.args.at c.args.s.now in
+    let taken : c.count.result ≡ length (take_while is_ascii_digit left) = count_from_yields_List c.take_while.result c.count.result c.count.ensures.ran (YieldsList-from_take_while _ is_ascii_digit (YieldsList-from_slice left cc) (cc) (cc) (λ x b q k. search rules)) in
+    omega (arith, length-prefix_len is_ascii_digit left, prefix_digits left)

@@ -3,8 +3,8 @@ use native.Mathlib.Omega.{arith}
 use Rattle.stream.proofs.Sofar.{starts, goes_on}
 use Rattle.stream.proofs.step.Goals as goal
 
-pub loop-used-init : goal.loop-used-init
-loop-used-init c = starts _ _ _ _ _ _ _ c.lesser-held.ensures
+pub loop-now-init : goal.loop-now-init
+loop-now-init c = starts _ _ _ _ _ _ _ c.min.ensures
 
-pub loop-used-preserved : goal.loop-used-preserved
-loop-used-preserved c = goes_on _ _ _ _ _ _ c.loop-used.invariant c.loop-used-test.true (omega (arith, c.if-out-at-lt-ROOM.false, c.loop-used.invariant.fits)) c.one_line-one.ensures
+pub loop-now-preserved : goal.loop-now-preserved
+loop-now-preserved c = goes_on _ _ _ _ _ _ c.loop-now.invariant c.loop-now-test.true (omega (arith, c.if-out-now-ge-ROOM.true, c.loop-now.invariant.fits)) c.one_line-now.ensures

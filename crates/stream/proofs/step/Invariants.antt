@@ -4,8 +4,8 @@ use lib.ListN.{length}
 use Rattle.stream.proofs.Sofar.{Sofar}
 use Rattle.stream.proofs.step.Given as goal
 
-abbrev pub invariant-loop-used : goal.invariant-loop-used
-invariant-loop-used l = Sofar l.program l.held-2 l.block l.from l.initial.kept l.initial.out l.kept l.out l.held l.used l.at
+abbrev pub invariant-loop-now : goal.invariant-loop-now
+invariant-loop-now l = Sofar l.program l.held l.block l.from l.initial.kept l.initial.out l.kept l.out l.now.held l.now.used l.now.at
 
-abbrev pub decreases-loop-used : goal.decreases-loop-used
-decreases-loop-used l = length l.block - l.used
+abbrev pub decreases-loop-now : goal.decreases-loop-now
+decreases-loop-now l = length l.block - l.now.used

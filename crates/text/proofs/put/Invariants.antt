@@ -1,12 +1,7 @@
--- After i turns the first i bytes are put.
-use Prim.Native.Nat.{◌-◌, ◌≤◌}
-use mathlib.Core.Path.{◌≡◌}
-use lib.ListN.{length, take}
+-- After some turns the first bytes, as many as there were turns, are put.
+use lib.ListN.{take}
 use Rattle.text.specs.Text.{Puts}
 use Rattle.text.proofs.put.Given as goal
 
-abbrev pub invariant-loop-i : goal.invariant-loop-i
-invariant-loop-i l = (l.i ≤ length l.bytes) × (length l.out ≡ length l.initial.out) × Puts (take l.i l.bytes) l.initial.out l.at l.out l.next
-
-abbrev pub decreases-loop-i : goal.decreases-loop-i
-decreases-loop-i l = length l.bytes - l.i
+abbrev pub invariant-loop-byte : goal.invariant-loop-byte
+invariant-loop-byte l = Puts (take l.byte-index l.bytes) l.initial.out l.at l.out l.next

@@ -1,24 +1,20 @@
 -- The hour, then what follows it.
-use mathlib.Core.Bool.{true, false}
-use Rattle.parser.proofs.Says.{says_seq_got, says_seq_no}
+use mathlib.Core.Bool.{false}
+use Rattle.parser.proofs.Says.{says_seq_got}
 use Rattle.time.specs.Rules.{hour_of, ends_day, base_time, after_hour}
+use Rattle.parser.proofs.Passed.{passed_got, says_seq_missed}
 use Rattle.time.proofs.base_time.Goals as goal
 
-pub returns-in-Got : goal.returns-in-Got
+pub returns-in_err-hour : goal.returns-in_err-hour
 unfolding base_time
-returns-in-Got c =
+returns-in_err-hour c =
     let a = c.args in
     let e = a.choices.edition in
-    says_seq_got (hour_of e) a.s.now a.at (λ h. after_hour a.choices.reading (ends_day e h) h) _ _ false _ _ (rw c.in-Got.is at c.time_hour-hour.ensures) (rw c.ends_day.ensures at c.time_after_hour.ensures)
+    passed_got _ _ c.from_residual.ensures.1 (says_seq_missed (hour_of e) a.s.now a.at (λ h. after_hour a.choices.reading (ends_day e h) h) _ c.in_err-hour.ensures)
 
-pub returns-in-Wrong : goal.returns-in-Wrong
+pub returns : goal.returns
 unfolding base_time
-returns-in-Wrong c =
+returns c =
     let a = c.args in
-    says_seq_no (hour_of a.choices.edition) a.s.now a.at (λ h. after_hour a.choices.reading (ends_day a.choices.edition h) h) false (rw c.in-Wrong.is at c.time_hour-hour.ensures)
-
-pub returns-in-Cut : goal.returns-in-Cut
-unfolding base_time
-returns-in-Cut c =
-    let a = c.args in
-    says_seq_no (hour_of a.choices.edition) a.s.now a.at (λ h. after_hour a.choices.reading (ends_day a.choices.edition h) h) true (rw c.in-Cut.is at c.time_hour-hour.ensures)
+    let e = a.choices.edition in
+    says_seq_got (hour_of e) a.s.now a.at (λ h. after_hour a.choices.reading (ends_day e h) h) _ _ false _ _ c.in_ok-hour.ensures (rw c.ends_day-zero.ensures at c.time_after_hour.ensures)

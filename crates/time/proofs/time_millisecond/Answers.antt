@@ -2,45 +2,48 @@
 use Prim.Native.Nat.{ℕ}
 use mathlib.Core.List.{List}
 use mathlib.Core.Bool.{Bool, true, false}
-use mathlib.Core.Path.{◌≡◌, refl, sym, ◌∙◌}
-use Rattle.parser.specs.Reading.{Found, Says, SaysOn, no, stop, opt, lack, map_found, or}
-use Rattle.parser.proofs.Places.{no≢stop}
-use Rattle.parser.proofs.Says.{or_false, or_true, says_opt, says_on, on_map}
+use mathlib.Core.Path.{◌≡◌, refl, ◌∙◌}
+use Rattle.parser.specs.Reading.{Found, Says, SaysOn, no, got, opt, lack, map_found, or}
+use Rattle.parser.specs.Read.{missed, cut, or_value}
+use Rattle.parser.specs.declared.Miss.{Miss}
+use Rattle.parser.proofs.Says.{says_map, says_on}
 use Rattle.time.specs.declared.Clock.{Clock}
 use Rattle.time.specs.declared.TimeUnit.{TimeUnit}
-use Rattle.time.specs.Rules.{or_whole, time_fraction, millisecond}
+use Rattle.time.specs.Rules.{whole_clock, or_whole, time_fraction, millisecond}
+use Rattle.parser.proofs.Passed.{missed_got, passed_on, says_map_missed, says_opt_missed, says_opt_got}
 use Rattle.time.proofs.Unmarked.{mark, no_fraction}
+use Rattle.time.proofs.LeftOut.{or_whole_lem}
 use Rattle.time.proofs.time_millisecond.Goals as goal
 
-module _ (u : TimeUnit) (z : Bool) (mi se : ℕ) (s : List ℕ) (at : ℕ) (b m : Bool) where
-  made : (f : Found Clock) (l : Bool) → Says (time_fraction u z mi se) s at f l → m ≡ or b l → SaysOn b (millisecond u z mi se) s at (map_found (or_whole mi se) (lack at f)) m
+module _ (u : TimeUnit) (z : Bool) (mi se : ℕ) (s : List ℕ) (at : ℕ) (f : Found Clock) (l : Bool) (h : Says (time_fraction u z mi se) s at f l) where
+  -- where the fraction stops the reading nothing was left open
+  stopped : (b : Bool) → (b ≡ true → mark.reads s at ≡ no) → (m : Miss) → missed m ≡ map_found (or_value (whole_clock mi se)) (lack at f) → cut m ≡ l → SaysOn b (millisecond u z mi se) s at (missed m) (cut m)
   unfolding millisecond
-  made f l h e =
+  stopped true n m e d =
+      let i : f ≡ no = h.found ∙ no_fraction u z mi se s at (n refl) in
+      absurd (missed_got m (rw i at e))
+  stopped false n m e d =
       let p = time_fraction u z mi se in
-      rw e (on_map b (opt p) s at (or_whole mi se) (lack at f) (or b l) (says_on (opt p) s at (lack at f) b l (says_opt p s at f l h)))
+      let k = says_map_missed (opt p) s at (or_whole mi se) m (says_opt_missed p s at (whole_clock mi se) f l h m e d) in
+      record { found = k.found; more = k.more }
 
--- where the fraction stops the reading nothing was left open
-not_open : (u : TimeUnit) (z : Bool) (mi se : ℕ) (s : List ℕ) (at : ℕ) (b : Bool) → (b ≡ true → mark.reads s at ≡ no) → Says (time_fraction u z mi se) s at (stop 1) false → false ≡ or b false
-not_open u z mi se s at true h k = absurd (no≢stop (sym (no_fraction u z mi se s at (h refl)) ∙ sym k.found))
-not_open u z mi se s at false h k = refl
+  taken : (b : Bool) (k : Clock) (n : ℕ) (m : Bool) → got k n ≡ map_found (or_value (whole_clock mi se)) (lack at f) → m ≡ l → SaysOn b (millisecond u z mi se) s at (got k n) (or b m)
+  unfolding millisecond
+  taken b k n m e d =
+      let p = time_fraction u z mi se in
+      let t = says_opt_got p s at (whole_clock mi se) f l h k n m e d in
+      says_on (millisecond u z mi se) s at (got k n) b m (rw (or_whole_lem mi se t.item, t.value) at (says_map (opt p) s at (or_whole mi se) (got t.item n) m t.says))
 
-pub returns-in-Got : goal.returns-in-Got
-returns-in-Got c =
+pub returns-in_err-clock : goal.returns-in_err-clock
+returns-in_err-clock c =
     let a = c.args in
-    made a.unit a.zero a.minute a.second a.s.now a.at a.more _ _ _ (rw c.in-Got.is at c.time_fraction-found.ensures) c.either_open.ensures
+    let w = a.whole in
+    passed_on _ _ c.from_residual.ensures.1
+    (stopped w.unit a.zero w.minute w.second a.s.now a.at _ _ c.time_fraction-fraction.ensures a.more c.requires.at_value _ (rw c.clock.ensures at c.in_err-clock.ensures.found) c.in_err-clock.ensures.more)
 
-pub returns-in-Stopped : goal.returns-in-Stopped
-returns-in-Stopped c =
+pub returns : goal.returns
+returns c =
     let a = c.args in
-    let h = rw c.in-Stopped.is at c.time_fraction-found.ensures in
-    made a.unit a.zero a.minute a.second a.s.now a.at a.more _ (stop 1) false h (not_open a.unit a.zero a.minute a.second a.s.now a.at a.more c.requires.at_value h)
-
-pub returns-in-Wrong : goal.returns-in-Wrong
-returns-in-Wrong c =
-    let a = c.args in
-    rw (c.whole_clock.ensures.found, c.whole_clock.ensures.more) (made a.unit a.zero a.minute a.second a.s.now a.at a.more _ no false (rw c.in-Wrong.is at c.time_fraction-found.ensures) (sym (or_false a.more)))
-
-pub returns-in-Cut : goal.returns-in-Cut
-returns-in-Cut c =
-    let a = c.args in
-    rw (c.whole_clock-in-Cut.ensures.found, c.whole_clock-in-Cut.ensures.more) (made a.unit a.zero a.minute a.second a.s.now a.at a.more _ no true (rw c.in-Cut.is at c.time_fraction-found.ensures) (sym (or_true a.more)))
+    let w = a.whole in
+    rw c.either_open.ensures
+    (taken w.unit a.zero w.minute w.second a.s.now a.at _ _ c.time_fraction-fraction.ensures a.more _ _ _ (rw c.clock.ensures at c.in_ok-clock.ensures.found) c.in_ok-clock.ensures.more)

@@ -1,32 +1,39 @@
 -- The offset is there or left out.
 use Prim.Native.Nat.{ℕ}
 use mathlib.Core.List.{List}
-use mathlib.Core.Bool.{Bool, true, false}
+use mathlib.Core.Bool.{Bool}
 use mathlib.Core.Option.{Option, some, none}
-use mathlib.Core.Path.{◌≡◌, sym}
+use mathlib.Core.Path.{sym}
+use Rattle.types.specs.Numbers.{number_of}
 use Rattle.types.specs.declared.Offset.{Offset}
 use Rattle.parser.specs.Reading.{Says, SaysOn, got, opt, or}
-use Rattle.parser.proofs.Says.{or_false, or_true, says_opt, says_on, on_map}
+use Rattle.parser.specs.Read.{missed, cut}
+use Rattle.parser.specs.declared.Miss.{Miss}
+use Rattle.parser.specs.declared.Miss.TheVariants as miss
+use Rattle.parser.proofs.Says.{says_opt, says_on, says_map}
 use Rattle.offset.specs.Rules.{offset}
+use Rattle.offset.proofs.Laws.{offset_unstopped}
 use Rattle.time.specs.declared.Clock.{Clock}
 use Rattle.time.specs.Rules.{time_of, time_offset}
 use Rattle.time.proofs.time_offset.Goals as goal
 
-made : (h : ℕ) (k : Clock) (s : List ℕ) (at : ℕ) (b m : Bool) (o : Option Offset) (n : ℕ) (l : Bool) → Says (opt offset) s at (got o n) l → m ≡ or b l → SaysOn b (time_offset h k) s at (got (time_of h k o) n) m
-unfolding time_offset
-made h k s at b m o n l x e = rw e (on_map b (opt offset) s at (time_of h k) (got o n) (or b l) (says_on (opt offset) s at (got o n) b l x))
+module _ (s : List ℕ) (at : ℕ) where
+  made : (h : ℕ) (k : Clock) (b : Bool) (o : Option Offset) (n : ℕ) (l : Bool) → Says (opt offset) s at (got o n) l → SaysOn b (time_offset h k) s at (got (time_of h k o) n) (or b l)
+  unfolding time_offset
+  made h k b o n l x = says_on (time_offset h k) s at _ b l (says_map (opt offset) s at (time_of h k) (got o n) l x)
 
-pub returns-in-Got : goal.returns-in-Got
-returns-in-Got c =
-    let a = c.args in
-    made a.hour _ a.s.now a.at a.more _ (some _) _ _ (says_opt offset a.s.now a.at _ _ (rw c.in-Got.is at c.offset_at-found.ensures)) c.either_open.ensures
+  -- no offset stops the reading
+  left_out : (m : Miss) → Says offset s at (missed m) (cut m) → Says (opt offset) s at (got none at) (cut m)
+  left_out miss.Wrong h = says_opt offset s at _ _ h
+  left_out miss.Cut h = says_opt offset s at _ _ h
+  left_out (miss.Stopped why) h = absurd (offset_unstopped.by s at (number_of why) (sym h.found))
 
-pub returns-in-Wrong : goal.returns-in-Wrong
-returns-in-Wrong c =
+pub returns-in-Ok : goal.returns-in-Ok
+returns-in-Ok c =
     let a = c.args in
-    rw (c.no_offset-bare.ensures.found, c.no_offset-bare.ensures.more) (made a.hour _ a.s.now a.at a.more _ none a.at false (says_opt offset a.s.now a.at _ _ (rw c.in-Wrong.is at c.offset_at-found.ensures)) (sym (or_false a.more)))
+    rw (c.time_of.ensures, c.either_open.ensures) (made a.s.now a.clock.next a.hour a.clock.value a.clock.more (some c.in-Ok.offset.value) _ _ (says_opt offset a.s.now a.clock.next _ _ c.in-Ok.ensures))
 
-pub returns-in-Cut : goal.returns-in-Cut
-returns-in-Cut c =
+pub returns-in-Err : goal.returns-in-Err
+returns-in-Err c =
     let a = c.args in
-    rw (c.no_offset.ensures.found, c.no_offset.ensures.more) (made a.hour _ a.s.now a.at a.more _ none a.at true (says_opt offset a.s.now a.at _ _ (rw c.in-Cut.is at c.offset_at-found.ensures)) (sym (or_true a.more)))
+    rw (c.time_of-in-Err.ensures, c.either_open-in-Err.ensures, c.is_cut.ensures) (made a.s.now a.clock.next a.hour a.clock.value a.clock.more none _ _ (left_out a.s.now a.clock.next _ c.in-Err.ensures))

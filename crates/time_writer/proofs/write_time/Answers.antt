@@ -1,10 +1,7 @@
--- The length first, then the bytes.
-use native.Mathlib.Omega.{arith}
-use Rattle.writing.proofs.Laws.{measured_long, put_writes}
-use Rattle.time_writer.proofs.Laws.{time_spells}
+-- There is room for the text, and it is put at the front.
+use mathlib.Core.Path.{sym, ◌∙◌}
+use Rattle.writing.proofs.Laws.{put_writes}
 use Rattle.time_writer.proofs.write_time.Goals as goal
 
-pub returns-else-buffer-count : goal.returns-else-buffer-count
-returns-else-buffer-count c =
-    let long = measured_long (time_spells _) c.time_length.ensures c.in-Length.is in
-    put_writes long.given long.size (omega (arith, c.if-buffer-count.false)) c.put_time.ensures
+pub returns : goal.returns
+returns c = put_writes _ c.time_length.ensures (sym c.room_for.ensures ∙ c.in_ok-count.was) c.put_time.ensures

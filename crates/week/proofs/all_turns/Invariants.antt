@@ -1,7 +1,6 @@
--- Each turn hands over a block more, and the buffer keeps its length.
-use Rattle.std.proofs.Common.{◌≡◌, length}
+-- Each turn hands over a block more.
 use Rattle.week.specs.Turns.{Handed}
 use Rattle.week.proofs.all_turns.Given as goal
 
 abbrev pub invariant-loop : goal.invariant-loop
-invariant-loop g l = (length l.kept ≡ length l.fn.kept) × Handed l.table l.kept l.so_far l.passed
+invariant-loop g l = Handed l.table l.kept l.so_far

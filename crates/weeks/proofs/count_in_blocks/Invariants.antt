@@ -1,10 +1,7 @@
 -- Each turn hands over a block more.
-use Rattle.std.proofs.Common.{length, ◌-◌}
+use Rattle.std.specs.Slice.Iter.{chunks_rest}
 use Rattle.weeks.proofs.Along.{Along}
 use Rattle.weeks.proofs.count_in_blocks.Given as goal
 
-abbrev pub invariant-loop-at : goal.invariant-loop-at
-invariant-loop-at l = Along l.log l.kept l.table l.week l.at
-
-abbrev pub decreases-loop-at : goal.decreases-loop-at
-decreases-loop-at l = length l.log - l.at
+abbrev pub invariant-loop-block : goal.invariant-loop-block
+invariant-loop-block l = Along l.log l.kept l.table l.week (chunks_rest l.block-iterator)

@@ -3,6 +3,5 @@ use mathlib.Core.Path.{sym}
 use Rattle.date.proofs.plain.Laws.{plain_says}
 use Rattle.date.proofs.plain.date_begun.Goals as goal
 
-pub returns-in-Got : goal.returns-in-Got
-returns-in-Got c =
-    plain_says c.args.s.now _ (sym (rw c.in-Got.is at c.plain_date-plain.ensures))
+pub returns-in-Some : goal.returns-in-Some
+returns-in-Some c = plain_says c.args.s.now _ (sym c.in-Some.ensures)
