@@ -98,6 +98,10 @@ verdict_slot Open = pos 1
 abbrev pub no_verdict : ℤ
 no_verdict = negsuc 0
 
+-- a refusal has a record of no kind
+abbrev pub no_slots : ⊥ → List ℤ
+no_slots _ = []
+
 abbrev pub record_slots : {A : Type 0} → (A → List ℤ) → Option A → List ℤ
 record_slots slots (some a) = slots a
 record_slots slots none = []

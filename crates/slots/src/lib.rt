@@ -4,14 +4,16 @@
 #![tactic(auto)]
 
 ghost use Rattle.std.specs.Prelude.{◌≡◌, ◌+◌, ◌≤◌, ℕ, ℤ, List, length};
+ghost use Rattle.types.specs.Numbers.{number_of};
+ghost use Rattle.parser.specs.Answer.{refused};
 ghost use Rattle.parser.specs.Told.{told};
-ghost use Rattle.slots.specs.Slots.{verdict_slot, PutIn};
+ghost use Rattle.slots.specs.Slots.{no_slots, verdict_slot, PutIn};
 ghost use Rattle.slots.specs.Choosing.{chosen};
 
 mod records;
 
 use parser::answer::{Answer, count};
-use types::{Choices, Edition, Reading, Verdict};
+use types::{Choices, Edition, Reading, Refusal, Verdict};
 
 // What is returned where the slots are too few, or the count is more than one holds: nothing is written.
 pub const TOO_FEW: u32 = 255;
@@ -20,7 +22,7 @@ pub const TOO_FEW: u32 = 255;
 pub const NO_SUCH_CHOICE: u32 = 254;
 
 // The greatest count that a slot holds.
-const MOST: usize = 9223372036854775807;
+pub const MOST: usize = 9223372036854775807;
 
 // The choices that a number names, for a caller who has numbers alone.
 pub fn choices_of(n: u32) -> Option<Choices>
@@ -68,6 +70,18 @@ pub trait InSlots {
         ensures { slots.new ≡ layout self };
 
     ghost has_head: { 2 ≤ ROOM };
+}
+
+// Fills the two slots that a refusal has and returns its number, also where a record would not fit.
+pub fn put_refusal(slots: &mut [i64], count: usize, verdict: i64, why: Refusal) -> u32
+    ensures { PutIn 2 no_slots verdict (refused (number_of why) count) slots.old slots.new result }
+{
+    if slots.len() < 2 || MOST < count {
+        return TOO_FEW;
+    }
+    slots[0] = count as i64;
+    slots[1] = verdict;
+    why.number()
 }
 
 // Fills the slots of an answer and returns its number. The head comes last: what the record is made of is then asked before anything is stored,
