@@ -3,7 +3,7 @@
 // each kind's record stands in records.rt.
 #![tactic(auto)]
 
-ghost use Rattle.std.specs.Prelude.{◌≡◌, ◌+◌, ◌≤◌, ℕ, ℤ, List, length};
+ghost use Rattle.std.specs.Prelude.{◌≡◌, ◌+◌, ◌≤◌, ℕ, ℤ, List, length, eqb, false};
 ghost use Rattle.types.specs.Numbers.{number_of};
 ghost use Rattle.parser.specs.Answer.{refused};
 ghost use Rattle.parser.specs.Told.{told};
@@ -64,10 +64,10 @@ pub trait InSlots {
     // How many slots its answer takes: the count's, the verdict's and the record's own.
     const ROOM: usize;
 
-    // Fills the record's own slots.
+    // Fills the record's own slots, if there are as many as it has, and else none.
     fn put(self, slots: &mut [i64])
-        requires { 2 + length slots.old ≡ ROOM }
-        ensures { slots.new ≡ layout self };
+        ensures fits { 2 + length slots.old ≡ ROOM → slots.new ≡ layout self }
+        ensures other { eqb (2 + length slots.old) ROOM ≡ false → slots.new ≡ slots.old };
 
     ghost has_head: { 2 ≤ ROOM };
 }
@@ -86,6 +86,7 @@ pub fn put_refusal(slots: &mut [i64], count: usize, verdict: i64, why: Refusal) 
 
 // Fills the slots of an answer and returns its number. The head comes last: what the record is made of is then asked before anything is stored,
 // and not again behind that.
+#[inline(always)]
 pub fn put_answer<T: InSlots + Copy>(slots: &mut [i64], verdict: i64, answer: Answer<T>) -> u32
     ensures { PutIn T.ROOM T.layout verdict (told answer) slots.old slots.new result }
 {

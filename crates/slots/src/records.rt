@@ -16,7 +16,9 @@ impl InSlots for Offset {
     const ROOM: usize = 4;
 
     fn put(self, slots: &mut [i64]) {
-        slots.copy_from_slice(&[self.hours as i64, self.minutes as i64]);
+        if slots.len() == 2 {
+            slots.copy_from_slice(&[self.hours as i64, self.minutes as i64]);
+        }
     }
 }
 
@@ -40,6 +42,9 @@ impl InSlots for Time {
     const ROOM: usize = 10;
 
     fn put(self, slots: &mut [i64]) {
+        if slots.len() != 8 {
+            return;
+        }
         let (given, hours, minutes) = shift(self.offset);
         slots.copy_from_slice(&[
             self.hour as i64,
@@ -75,8 +80,10 @@ impl InSlots for Date {
     const ROOM: usize = 6;
 
     fn put(self, slots: &mut [i64]) {
-        let (form, year, part, day) = parts(self);
-        slots.copy_from_slice(&[form as i64, year as i64, part as i64, day as i64]);
+        if slots.len() == 4 {
+            let (form, year, part, day) = parts(self);
+            slots.copy_from_slice(&[form as i64, year as i64, part as i64, day as i64]);
+        }
     }
 }
 
@@ -90,9 +97,11 @@ impl InSlots for DateTime {
     const ROOM: usize = 14;
 
     fn put(self, slots: &mut [i64]) {
-        let (date, time) = slots.split_at_mut(4);
-        self.date.put(date);
-        self.time.put(time);
+        if slots.len() == 12 {
+            let (date, time) = slots.split_at_mut(4);
+            self.date.put(date);
+            self.time.put(time);
+        }
     }
 }
 
@@ -107,6 +116,9 @@ impl InSlots for Duration {
 
     // Each number's 64 bits, in a slot that has a sign.
     fn put(self, slots: &mut [i64]) {
+        if slots.len() != 7 {
+            return;
+        }
         slots.copy_from_slice(&[
             self.years.cast_signed(),
             self.months.cast_signed(),

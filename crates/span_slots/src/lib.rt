@@ -92,6 +92,9 @@ impl InSlots for Spanned {
     const ROOM: usize = ROOM;
 
     fn put(self, slots: &mut [i64]) {
+        if slots.len() != ROOM - 2 {
+            return;
+        }
         let Interval { repetitions, range } = self.0;
         let (which, times) = repeat(repetitions);
         let (front, sides) = slots.split_at_mut(3);
@@ -102,6 +105,7 @@ impl InSlots for Spanned {
 }
 
 // Fills the slots of an interval's answer and returns its number.
+#[inline(always)]
 pub fn put_answer(slots: &mut [i64], verdict: i64, answer: Answer<Interval>) -> u32
     ensures { PutIn 33 interval_slots verdict (told answer) slots.old slots.new result }
 {
