@@ -113,6 +113,7 @@ fn date_day_of_year(s: &[u8], at: usize) -> Result<Exact<u32>, Miss>
 }
 
 // DDD
+#[inline(always)]
 fn date_yddd(s: &[u8], at: usize, year: i32) -> Found<Date>
     ensures { Says (ordinal year) s.now at (got_found result) (got_more result) }
 {
@@ -128,6 +129,7 @@ fn date_yddd(s: &[u8], at: usize, year: i32) -> Found<Date>
 }
 
 // -DD
+#[inline(always)]
 fn dashed_day(s: &[u8], at: usize) -> Result<Exact<u32>, Miss>
     ensures { Says dashed_day s.now at (exact_found result) (exact_more result) }
 {
@@ -136,6 +138,7 @@ fn dashed_day(s: &[u8], at: usize) -> Result<Exact<u32>, Miss>
 }
 
 // [-DD], day 1 where absent
+#[inline(always)]
 fn day_of_month(s: &[u8], at: usize) -> Found<u32>
     ensures { Says dashed_day_of_month s.now at (got_found result) (got_more result) }
 {
@@ -144,6 +147,7 @@ fn day_of_month(s: &[u8], at: usize) -> Found<u32>
 }
 
 // MM[-DD]: with no dash before the day, alternative 3 has taken the month and one digit more
+#[inline(always)]
 fn date_ymd(s: &[u8], at: usize, year: i32) -> Found<Date>
     ensures { Says (month_and_dashed_day year) s.now at (got_found result) (got_more result) }
 {
@@ -162,6 +166,7 @@ fn date_ymd(s: &[u8], at: usize, year: i32) -> Found<Date>
 
 // What a later alternative finds where the end of the input cut an earlier one short: a longer input could still bring that one
 // right, so it is open in any case. What stops all reading is left as it is; nothing in a date does.
+#[inline(always)]
 fn opened(found: Found<Date>) -> Found<Date>
     ensures found { got_found result ≡ got_found found }
     ensures more { ((r : ℕ) → got_found found ≡ stop r → ⊥) → got_more result ≡ true }

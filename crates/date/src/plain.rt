@@ -8,6 +8,7 @@ use parser::{Found, Got};
 use types::Date;
 
 // A date at the very beginning. The plain form is tried before the rule.
+#[inline(always)]
 pub fn date_begun(s: &[u8]) -> Found<Date>
     ensures { Says date s.now 0 (got_found result) (got_more result) }
 {

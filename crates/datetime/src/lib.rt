@@ -13,6 +13,7 @@ use types::{Choices, Date, DateTime};
 pub mod plain;
 
 // The time of a date.
+#[inline(always)]
 fn time_of(s: &[u8], at: usize, date: Date, choices: Choices) -> Found<DateTime>
     ensures { Says (time_of choices date) s.now at (got_found result) (got_more result) }
 {
@@ -28,6 +29,7 @@ fn time_of(s: &[u8], at: usize, date: Date, choices: Choices) -> Found<DateTime>
 }
 
 // T and the time of a date. Where the date was left open no T stands behind it, and what is found stays open.
+#[inline(always)]
 fn after_date(s: &[u8], date: Got<Date>, choices: Choices) -> Found<DateTime>
     requires { date.more ≡ true → (lit 84).reads s.now date.next ≡ no }
     ensures { SaysOn date.more (after_date choices date.value) s.now date.next (got_found result) (got_more result) }
@@ -40,6 +42,7 @@ fn after_date(s: &[u8], date: Got<Date>, choices: Choices) -> Found<DateTime>
 }
 
 // A date-time from a place on.
+#[inline(always)]
 pub fn datetime_at(s: &[u8], at: usize, choices: Choices) -> Found<DateTime>
     ensures { Says (date_time choices) s.now at (got_found result) (got_more result) }
 {

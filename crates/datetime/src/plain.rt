@@ -11,6 +11,7 @@ use types::{Choices, Date, DateTime};
 
 // YYYY-MM-DDT, where a clock has room behind it
 #[tactic(auto, unfolding(crate::specs::Plain::date_of_stamp))]
+#[inline(always)]
 fn date_of_stamp(s: &[u8]) -> Option<Date>
     ensures { result ≡ date_of_stamp s.now }
 {
@@ -21,6 +22,7 @@ fn date_of_stamp(s: &[u8]) -> Option<Date>
 }
 
 // YYYY-MM-DDTHH:MM:SS[.mmm], alone or with an offset
+#[inline(always)]
 fn plain_stamp(s: &[u8]) -> Option<Got<DateTime>>
     ensures { result ≡ plain_stamp s.now }
 {
@@ -37,6 +39,7 @@ fn plain_stamp(s: &[u8]) -> Option<Got<DateTime>>
 }
 
 // A date-time at the very beginning. The plain form is tried before the rule.
+#[inline(always)]
 pub fn datetime_begun(s: &[u8], choices: Choices) -> Found<DateTime>
     ensures { Says (date_time choices) s.now 0 (got_found result) (got_more result) }
 {

@@ -58,6 +58,7 @@ fn no_range(more: bool) -> Found<IntervalRange>
 }
 
 // What ends the reading of a date-time as no form fails here, as any other no form does.
+#[inline(always)]
 fn no_form_fails(found: Found<DateTime>) -> Found<DateTime>
     ensures found { got_found result ≡ no_form_fails (got_found found) }
     ensures more { got_more result ≡ got_more found }
@@ -225,6 +226,7 @@ fn with_range(s: &[u8], at: usize, repetitions: Repetitions, choices: Choices) -
 }
 
 // An interval from a place on.
+#[inline(always)]
 pub fn interval_at(s: &[u8], at: usize, choices: Choices) -> Found<Interval>
     ensures { Says (interval choices) s.now at (got_found result) (got_more result) }
 {

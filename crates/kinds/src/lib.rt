@@ -28,6 +28,7 @@ pub fn kind_of(letter: u8, choices: Choices) -> Option<Kind>
 }
 
 // An answer of one kind, its record put among those of any kind.
+#[inline(always)]
 fn any_answer<T: Into<Record> + Copy>(answer: parser::answer::Answer<T>) -> Answer
     ensures { SameBy T.converts answer result }
 {
@@ -38,6 +39,7 @@ fn any_answer<T: Into<Record> + Copy>(answer: parser::answer::Answer<T>) -> Answ
     })
 }
 
+#[inline(always)]
 fn any_read<T: Into<Record> + Copy>(read: parser::answer::Read<T>) -> Read
     ensures answer { SameBy T.converts read.answer result.answer }
     ensures verdict { result.verdict ≡ read.verdict }

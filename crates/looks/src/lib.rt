@@ -93,6 +93,7 @@ pub enum PlainOffset {
 }
 
 // The offset of a sign, an hour and a minute. Minus zero is left to the rule.
+#[inline(always)]
 fn plain_shift(minus: bool, hour: u32, minute: u32, next: usize) -> PlainOffset
     requires { (hour ≤ 255) × (minute ≤ 255) }
     ensures { result ≡ plain_shift minus hour minute next }
@@ -111,6 +112,7 @@ fn plain_shift(minus: bool, hour: u32, minute: u32, next: usize) -> PlainOffset
 
 // HH:MM after the sign at `at`, the digits read at one go
 #[tactic(auto, unfolding(crate::specs::Offset::plain_signed))]
+#[inline(always)]
 fn plain_signed(s: &[u8], at: usize, minus: bool) -> PlainOffset
     ensures { result ≡ plain_signed minus s.now at }
 {
@@ -127,6 +129,7 @@ fn plain_signed(s: &[u8], at: usize, minus: bool) -> PlainOffset
 
 // Z or (+|-)HH:MM
 #[tactic(auto, unfolding(crate::specs::Offset::plain_offset))]
+#[inline(always)]
 pub fn plain_offset(s: &[u8], at: usize) -> PlainOffset
     ensures { result ≡ plain_offset s.now at }
 {

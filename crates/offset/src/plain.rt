@@ -9,6 +9,7 @@ use parser::{Found, Got, Miss};
 use types::Offset;
 
 // An offset at the very beginning. The plain forms are tried before the rule.
+#[inline(always)]
 pub fn offset_begun(s: &[u8]) -> Found<Offset>
     ensures { Says offset s.now 0 (got_found result) (got_more result) }
 {

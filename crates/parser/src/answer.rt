@@ -32,6 +32,7 @@ pub struct Read<T> {
 
 impl Miss {
     // Why bytes that begin so are no record.
+    #[inline(always)]
     fn refused(self) -> Refused
         ensures { result ≡ record { why = refusal_of self; count = 0 } }
     {
@@ -46,6 +47,7 @@ impl Miss {
 
 // Of a beginning reader.
 #[tactic(auto, using(crate::proofs::Missed::begun_missed))]
+#[inline(always)]
 pub fn begun<T: Copy>(found: Found<T>) -> Read<T>
     ensures answer { told result.answer ≡ begun (got_found found) }
     ensures verdict { result.verdict ≡ verdict_of (got_more found) }
@@ -67,6 +69,7 @@ pub fn begun<T: Copy>(found: Found<T>) -> Read<T>
 
 // Of a whole reader, of so many bytes.
 #[tactic(auto, using(crate::proofs::Missed::ended_missed))]
+#[inline(always)]
 pub fn whole<T: Copy>(found: Found<T>, all: usize) -> Answer<T>
     ensures { told result ≡ ended all (got_found found) }
 {
@@ -100,6 +103,7 @@ pub fn rest<T: Copy>(found: Found<T>, s: &[u8]) -> &[u8]
 }
 
 // 0 for a record, and else the paper's number of the refusal.
+#[inline(always)]
 pub fn number<T: Copy>(answer: Answer<T>) -> u64
     ensures { result ≡ (told answer).number }
 {
@@ -110,6 +114,7 @@ pub fn number<T: Copy>(answer: Answer<T>) -> u64
 }
 
 // The bytes read; of a refusal those that the form took.
+#[inline(always)]
 pub fn count<T: Copy>(answer: Answer<T>) -> usize
     ensures { result ≡ (told answer).count }
 {

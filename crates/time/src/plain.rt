@@ -12,6 +12,7 @@ use parser::{Found, Got};
 use types::{Choices, Fraction, Time};
 
 // A clock and its fraction, with what stands behind them at `at`: the end of the input, or an offset.
+#[inline(always)]
 fn plain_time(s: &[u8], at: usize, hands: PlainClock, fraction: Fraction) -> Option<Got<Time>>
     ensures { result ≡ plain_time s.now at hands fraction }
 {
@@ -37,6 +38,7 @@ fn plain_time(s: &[u8], at: usize, hands: PlainClock, fraction: Fraction) -> Opt
 
 // A clock with the milliseconds at `at`.
 #[tactic(auto, using(crate::proofs::plain::Laws::millisecond_room, crate::proofs::plain::Laws::millisecond_small))]
+#[inline(always)]
 fn with_millisecond(s: &[u8], at: usize, hands: PlainClock) -> Option<Got<Time>>
     ensures { result ≡ with_millisecond s.now (at + 4) hands (plain_millisecond s.now at) }
 {
@@ -50,15 +52,19 @@ fn with_millisecond(s: &[u8], at: usize, hands: PlainClock) -> Option<Got<Time>>
 
 // A time of the plain form HH:MM:SS.mmm or HH:MM:SS, alone or with an offset.
 #[tactic(auto, using(crate::proofs::plain::Laws::clock_room))]
+#[inline(always)]
 pub fn plain_at(s: &[u8], at: usize) -> Option<Got<Time>>
     ensures { result ≡ plain_at s.now at }
 {
     let hands = looks::plain_clock(s, at)?;
-    let exact = with_millisecond(s, at + 8, hands);
-    exact.or(plain_time(s, at + 8, hands, Fraction::NONE))
+    match with_millisecond(s, at + 8, hands) {
+        Some(exact) => Some(exact),
+        None => plain_time(s, at + 8, hands, Fraction::NONE),
+    }
 }
 
 // A time at the very beginning. The plain forms are tried before the rule.
+#[inline(always)]
 pub fn time_begun(s: &[u8], choices: Choices) -> Found<Time>
     ensures { Says (time choices) s.now 0 (got_found result) (got_more result) }
 {
