@@ -1,10 +1,10 @@
 -- A date-time is read back from its spelling: the date whatever follows, then the `T`, then the time to the end.
 use Prim.Native.Nat.{ℕ, ◌+◌, ◌≤◌}
-use mathlib.Core.List.{[], ◌∷◌}
+use mathlib.Core.List.{List, [], ◌∷◌}
 use mathlib.Core.Bool.{true}
 use mathlib.Core.Path.{◌≡◌, refl, ◌∙◌}
 use native.Mathlib.Omega.{arith}
-use lib.ListN.{length, length-append}
+use lib.ListN.{length, length-append, drop, length-drop}
 use Rattle.types.specs.declared.Choices.{Choices}
 use Rattle.types.specs.declared.Date.{Date}
 use Rattle.types.specs.declared.DateTime.{DateTime}
@@ -16,7 +16,7 @@ use Rattle.date.specs.Rules.{date}
 use Rattle.time.specs.Rules.{time}
 use Rattle.datetime.specs.Rules.{stamp, time_of, after_date, date_time}
 use Rattle.writing.specs.Spelling.{date_spelling, time_spelling, date_time_spelling}
-use Rattle.writing.specs.Writing.{Measures}
+use Rattle.writing.specs.Writing.{Measures, over}
 use Rattle.writing.proofs.Texts.{ReadAs, lit_reads, seq_reads, map_reads, whole}
 use Rattle.writing.proofs.Yields.{Yields, seq_yields, map_yields, anything}
 use Rattle.writing.proofs.Laws.{Spells, measured_none, measured_long, none_measures, some_measures}
@@ -79,3 +79,7 @@ date_most d h = omega (arith, (measured_long date_spells h refl).1, date_short d
 
 pub time_most : (c : Choices) (t : Time) {n : ℕ} → Measures (time c) t (time_spelling t) (Some n) → n ≤ 24
 time_most c t h = omega (arith, (measured_long (time_spells c) h refl).1, time_short t)
+
+-- what was put leaves the buffer as long as it was
+pub over_size : (t l : List ℕ) → length t ≤ length l → length (over t l) ≡ length l
+over_size t l h = length-append t (drop (length t) l) ∙ omega (arith, length-drop (length t) l)

@@ -21,7 +21,7 @@ use Rattle.time.proofs.Laws.{time_bounded}
 use Rattle.date.proofs.Laws.{date_bounded}
 use Rattle.datetime.proofs.Laws.{datetime_bounded}
 use Rattle.duration.proofs.Laws.{duration_bounded}
-use Rattle.slots.specs.Slots.{verdict_slot, no_verdict, Untouched, Answered, PutIn}
+use Rattle.slots.specs.Slots.{no_slots, verdict_slot, no_verdict, Untouched, Answered, PutIn}
 use Rattle.slot_readers.specs.Promises.{BeginsIn, EndsIn}
 
 -- ---- the count is within the input
@@ -51,6 +51,10 @@ ended_count {A} p s bounded = go (p.reads s 0) refl
 -- what was put, by what the answer tells
 put_as : {A : Type 0} {n : ℕ} {f : A → List ℤ} {m : ℕ} {before after : List ℤ} {r : ℕ} {v : ℤ} {told told' : Told A} → told ≡ told' → told'.count ≤ m → m < 2 ^ 63 → n ≤ length before → PutIn n f v told before after r → Answered f v told' before after r
 put_as e le short room put = rw e at (put.room room (rw e (omega arith)))
+
+-- a refusal is one of any kind
+pub refusal : {A : Type 0} {f : A → List ℤ} {m : ℕ} {v : ℤ} {q i : ℕ} {before after : List ℤ} {r : ℕ} → PutIn m no_slots v (refused q i) before after r → PutIn m f v (refused q i) before after r
+refusal p = record { few = p.few; far = p.far; room = λ h i. let a = p.room h i in record { number = a.number; filled = a.filled } }
 
 module _ {A : Type 0} {n : ℕ} {p : Reader A} {f : A → List ℤ} {s : List ℕ} {before after : List ℤ} {r : ℕ} where
   pub begins : {k : ℕ} {told : Told A} {v : Verdict} {w : ℤ} → Bounded p → length s < 2 ^ 63 → Begins k p s told v → w ≡ verdict_slot v → PutIn n f w told before after r → BeginsIn n k p f s before after r

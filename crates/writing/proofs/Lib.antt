@@ -2,3 +2,4 @@ pub mod Texts
 pub mod Digits
 pub mod Yields
 pub mod Laws
+pub mod Signs
