@@ -9,6 +9,7 @@ use parser::answer::{Answer, Read, begun, rest, whole};
 use types::Date;
 
 // Reads the date that the bytes begin with.
+#[tactic(auto, using(date::proofs::Laws::date_begins))]
 pub fn date(s: &[u8]) -> Read<Date>
     ensures { date_reads s.now result }
 {

@@ -9,6 +9,7 @@ use parser::answer::{Answer, Read, begun, rest, whole};
 use types::{Choices, DateTime};
 
 // Reads the date-time that the bytes begin with.
+#[tactic(auto, using(datetime::proofs::Laws::datetime_begins))]
 pub fn datetime(s: &[u8], choices: Choices) -> Read<DateTime>
     ensures { date_time_reads choices s.now result }
 {

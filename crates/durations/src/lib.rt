@@ -14,6 +14,7 @@ use types::Duration;
 // * Duration in weekly intervals: `P1W`
 //
 // The `T` may be absent. No range is asked of a part but that its number is at most 18,446,744,073,709,551,615.
+#[tactic(auto, using(duration::proofs::Laws::duration_begins))]
 pub fn duration(s: &[u8]) -> Read<Duration>
     ensures { duration_reads s.now result }
 {

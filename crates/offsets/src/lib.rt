@@ -10,6 +10,7 @@ use parser::answer::{Answer, Read, begun, rest, whole};
 use types::Offset;
 
 // Reads the offset that the bytes begin with.
+#[tactic(auto, using(offset::proofs::Laws::offset_begins))]
 pub fn offset(s: &[u8]) -> Read<Offset>
     ensures { offset_reads s.now result }
 {

@@ -10,6 +10,7 @@ use parser::answer::{Answer, Read, begun, rest, whole};
 use types::{Choices, Time};
 
 // Reads the time that the bytes begin with.
+#[tactic(auto, using(time::proofs::Laws::time_begins))]
 pub fn time(s: &[u8], choices: Choices) -> Read<Time>
     ensures { time_reads choices s.now result }
 {
