@@ -12,11 +12,11 @@ use std::process::ExitCode;
 use stream::{LIMIT, Program};
 use telling::tell;
 
-// A program that runs, and what it calls itself where it tells that something failed.
+// What a program reads and writes, and what it calls itself where it tells that something failed. Which program it is goes beside
+// this and not in it, so that the compiler knows it at each call and leaves the other programs out.
 #[derive(Drop)]
 struct Filter<'a, R> {
     rt: &'a R,
-    program: Program,
     name: &'a [u8],
 }
 
@@ -40,14 +40,14 @@ impl<R: Print + Eprint> Filter<'_, R> {
 
     // Hands the responses to the lines that a block ends to the write, step by step.
     #[tactic(auto, using(crate::proofs::Along::goes_along))]
-    fn serve(&self, buffers: &mut Buffers, block: &[u8]) -> Result<(), ExitCode>
-        ensures { Serves self.now.program buffers.old block.now buffers.new result }
+    fn serve(&self, program: Program, buffers: &mut Buffers, block: &[u8]) -> Result<(), ExitCode>
+        ensures { Serves program buffers.old block.now buffers.new result }
     {
         let mut used = 0;
         // Kept: each step says how far it used the block, so no iterator counts here.
         while used < block.len() {
             let step = stream::step(
-                self.program,
+                program,
                 &mut buffers.kept,
                 buffers.held,
                 block,
@@ -62,24 +62,29 @@ impl<R: Print + Eprint> Filter<'_, R> {
     }
 
     // The last line, where the input has no byte 10 behind it.
-    fn serve_last(&self, buffers: &mut Buffers) -> Result<(), ExitCode> {
-        let n = stream::finish(self.program, &buffers.kept, buffers.held, &mut buffers.out);
+    fn serve_last(&self, program: Program, buffers: &mut Buffers) -> Result<(), ExitCode> {
+        let n = stream::finish(program, &buffers.kept, buffers.held, &mut buffers.out);
         self.write(&buffers.out[..n])
     }
 }
 
 impl<R: Input + Print + Eprint> Filter<'_, R> {
     // A proved loop has to end, and nothing says that an input does. So the loop counts its turns, to a number that no run reaches.
-    fn serve_all(&self, buffers: &mut Buffers, buf: &mut [u8]) -> Result<(), ExitCode> {
+    fn serve_all(
+        &self,
+        program: Program,
+        buffers: &mut Buffers,
+        buf: &mut [u8],
+    ) -> Result<(), ExitCode> {
         let mut input = self.rt.reader();
         for _ in 0..u64::MAX {
             let n = input
                 .read(buf)
                 .map_err(|why| tell(self.rt, self.name, b": standard input", why))?;
             if n == 0 {
-                return self.serve_last(buffers);
+                return self.serve_last(program, buffers);
             }
-            self.serve(buffers, &buf[..n])?;
+            self.serve(program, buffers, &buf[..n])?;
         }
         Err(ExitCode::FAILURE)
     }
@@ -93,8 +98,8 @@ pub fn run(rt: &(impl Input + Print + Eprint), program: Program, name: &[u8]) ->
         held: 0,
         out: [0; 65536],
     };
-    let filter = Filter { rt, program, name };
-    match filter.serve_all(&mut buffers, &mut buf) {
+    let filter = Filter { rt, name };
+    match filter.serve_all(program, &mut buffers, &mut buf) {
         Ok(()) => ExitCode::SUCCESS,
         Err(status) => status,
     }
