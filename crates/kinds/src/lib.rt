@@ -51,6 +51,7 @@ fn any_read<T: Into<Record> + Copy>(read: parser::answer::Read<T>) -> Read
 }
 
 // Reads the record of a kind that the bytes begin with.
+#[inline(always)]
 pub fn read(kind: Kind, s: &[u8]) -> Read
     ensures { Reads kind s.now result }
 {

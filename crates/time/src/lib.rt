@@ -243,18 +243,15 @@ fn time_offset(s: &[u8], hour: u32, clock: Got<Clock>) -> Found<Time>
     ensures { SaysOn clock.more (time_offset hour clock.value) s.now clock.next (got_found result) (got_more result) }
 {
     let at = clock.next;
-    match offset::offset_at(s, at) {
-        Ok(offset) => Ok(Got {
-            value: clock.value.time_of(hour, Some(offset.value)),
-            next: offset.next,
-            more: parser::either_open(clock.more, offset.more),
-        }),
-        Err(miss) => Ok(Got {
-            value: clock.value.time_of(hour, None),
-            next: at,
-            more: parser::either_open(clock.more, miss.is_cut()),
-        }),
-    }
+    let (offset, next, more) = match offset::offset_at(s, at) {
+        Ok(offset) => (Some(offset.value), offset.next, offset.more),
+        Err(miss) => (None, at, miss.is_cut()),
+    };
+    Ok(Got {
+        value: clock.value.time_of(hour, offset),
+        next,
+        more: parser::either_open(clock.more, more),
+    })
 }
 
 // What follows the hour. `zero`: it ends the day.
@@ -283,7 +280,15 @@ pub fn base_time(s: &[u8], at: usize, choices: Choices) -> Found<Time>
 {
     let hour = time_hour(s, at, choices.edition)?;
     let zero = ends_day(choices.edition, hour.value);
-    time_after_hour(s, hour.next, hour.value, zero, choices.reading)
+    // Field by field: what is copied as one is read in other pieces than it was written in, and waits for them.
+    let Got { value, next, more } = time_after_hour(
+        s,
+        hour.next,
+        hour.value,
+        zero,
+        choices.reading,
+    )?;
+    Ok(Got { value, next, more })
 }
 
 // [T]HH...

@@ -15,6 +15,7 @@ use Rattle.offset.specs.Rules.{offset}
 use Rattle.offset.proofs.Laws.{offset_unstopped}
 use Rattle.time.specs.declared.Clock.{Clock}
 use Rattle.time.specs.Rules.{time_of, time_offset}
+use Rattle.time.proofs.time_offset.Goals.{in-Ok, in-Err}
 use Rattle.time.proofs.time_offset.Goals as goal
 
 module _ (s : List ℕ) (at : ℕ) where
@@ -28,12 +29,11 @@ module _ (s : List ℕ) (at : ℕ) where
   left_out miss.Cut h = says_opt offset s at _ _ h
   left_out (miss.Stopped why) h = absurd (offset_unstopped.by s at (number_of why) (sym h.found))
 
-pub returns-in-Ok : goal.returns-in-Ok
-returns-in-Ok c =
+pub returns : goal.returns
+returns c =
     let a = c.args in
-    rw (c.time_of.ensures, c.either_open.ensures) (made a.s.now a.clock.next a.hour a.clock.value a.clock.more (some c.in-Ok.offset.value) _ _ (says_opt offset a.s.now a.clock.next _ _ c.in-Ok.ensures))
-
-pub returns-in-Err : goal.returns-in-Err
-returns-in-Err c =
-    let a = c.args in
-    rw (c.time_of-in-Err.ensures, c.either_open-in-Err.ensures, c.is_cut.ensures) (made a.s.now a.clock.next a.hour a.clock.value a.clock.more none _ _ (left_out a.s.now a.clock.next _ c.in-Err.ensures))
+    let k = a.clock in
+    elim c.match-offset_at.branch [
+      | in-Ok w ↦ rw (c.time_of.ensures, c.either_open.ensures, w.offset-is) (made a.s.now k.next a.hour k.value k.more (some w.in-Ok.offset.value) _ _ (says_opt offset a.s.now k.next _ _ w.in-Ok.ensures))
+      | in-Err w ↦ rw (c.time_of.ensures, c.either_open.ensures, w.offset-is, w.is_cut.ensures) (made a.s.now k.next a.hour k.value k.more none _ _ (left_out a.s.now k.next _ w.in-Err.ensures))
+    ]
