@@ -28,6 +28,7 @@ pub fn two_digits(a: u8, b: u8, lo: u32, hi: u32) -> Option<u32>
 
 // YYYY-MM-DD at the very beginning, its digits read at one go.
 #[tactic(auto, unfolding(crate::specs::Date::plain_date))]
+#[inline(always)]
 pub fn plain_date(s: &[u8]) -> Option<Date>
     ensures { result ≡ plain_date s.now }
 {

@@ -7,18 +7,18 @@ ghost use Rattle.parser.specs.Told.{told, refusal_of};
 use crate::{Found, Miss, leftover, verdict_on};
 use types::{Refusal, Verdict};
 
-// A record and the count of its bytes.
+// A record and the count of its bytes. The count stands first here and where there is no record, so that no word of a record lies over it.
 #[derive(Clone, Copy)]
 pub struct Counted<T> {
-    pub value: T,
     pub count: usize,
+    pub value: T,
 }
 
 // Why there is no record, and the bytes that the form took: 0 unless bytes are left over.
 #[derive(Clone, Copy)]
 pub struct Refused {
-    pub why: Refusal,
     pub count: usize,
+    pub why: Refusal,
 }
 
 pub type Answer<T> = Result<Counted<T>, Refused>;
